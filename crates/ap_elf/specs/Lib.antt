@@ -1,0 +1,4 @@
+pub mod Fields
+pub mod FirstFault
+pub mod Cells
+pub mod ElfReading

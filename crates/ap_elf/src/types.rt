@@ -1,0 +1,55 @@
+// The two structures at a file's front, field by field (System V gABI, "ELF Header" and "Program Header").
+
+/// The ELF header, 64 bytes from the file's start.
+#[derive(Clone, Copy, Debug, Default, PartialEq, Eq)]
+pub struct Header {
+    /// The file's mark, its class, its byte order and its versions.
+    pub ident: [u8; 16],
+    /// What the file is: 2 for a program at fixed addresses.
+    pub e_type: u16,
+    /// The machine: 62 for x86-64, 183 for AArch64.
+    pub e_machine: u16,
+    /// The version of the format, 1.
+    pub e_version: u32,
+    /// The address at which the program starts.
+    pub e_entry: u64,
+    /// The place of the program header table in the file.
+    pub e_phoff: u64,
+    /// The place of the section header table in the file, or 0.
+    pub e_shoff: u64,
+    /// Flags of the machine.
+    pub e_flags: u32,
+    /// The size of this header in bytes.
+    pub e_ehsize: u16,
+    /// The size of one program header in bytes.
+    pub e_phentsize: u16,
+    /// The number of program headers.
+    pub e_phnum: u16,
+    /// The size of one section header in bytes.
+    pub e_shentsize: u16,
+    /// The number of section headers.
+    pub e_shnum: u16,
+    /// The number of the section that holds the sections' names.
+    pub e_shstrndx: u16,
+}
+
+/// One program header, 56 bytes: an entry of the program header table.
+#[derive(Clone, Copy, Debug, Default, PartialEq, Eq)]
+pub struct Entry {
+    /// What the entry is (`p_type`): 1 for a part of the file that is loaded.
+    pub kind: u32,
+    /// Its permissions (`p_flags`): 1 execute, 2 write, 4 read.
+    pub flags: u32,
+    /// The place of its first byte in the file.
+    pub offset: u64,
+    /// The address of its first byte in memory.
+    pub vaddr: u64,
+    /// The physical address, which nothing here looks at.
+    pub paddr: u64,
+    /// How many of its bytes stand in the file.
+    pub filesz: u64,
+    /// How many bytes it has in memory; those past `filesz` are 0.
+    pub memsz: u64,
+    /// Its alignment in the file and in memory.
+    pub align: u64,
+}
