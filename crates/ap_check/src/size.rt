@@ -1,0 +1,16 @@
+// Rules 1 and 2.
+ghost use Rattle.std.specs.Prelude.{◌≤◌, ◌^◌, OnOk};
+ghost use Rattle.ap_check.specs.Rules.{Checks, size_rules};
+
+use crate::fault::{Fault, broken, demand};
+
+/// Rules 1 and 2 of the input `number`, by its size in bytes alone: it has 2^28 bytes at most (rule 1), and room for an
+/// ELF header, which is 64 bytes (rule 2).
+pub fn check_size(size: u64, number: u8) -> Result<(), Fault>
+    ensures rules { Checks result (size_rules number size) }
+    ensures least { OnOk result (64 ≤ size) }
+    ensures most { OnOk result (size ≤ 2 ^ 28) }
+{
+    demand(size <= 1 << 28, broken(number, 1, 0, size))?;
+    demand(size >= 64, broken(number, 2, 0, size))
+}
