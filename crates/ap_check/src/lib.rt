@@ -2,6 +2,7 @@
 #![tactic(auto)]
 
 mod check;
+mod entries;
 mod fault;
 mod header;
 mod input;

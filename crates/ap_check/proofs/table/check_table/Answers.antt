@@ -3,7 +3,7 @@ use Rattle.std.proofs.lemmas.Grind.{common_steps}
 use Rattle.ap_elf.proofs.FirstFaults.{join_steps}
 use Rattle.ap_check.specs.Rules.{table_rules}
 use Rattle.ap_check.specs.Inputs.{taken_of}
-use Rattle.ap_check.proofs.Laws.{meets_from}
+use Rattle.ap_check.proofs.Held.{meets_from}
 use Rattle.ap_check.proofs.table.check_table.Goals as goal
 
 pub invariant_of-result : goal.invariant_of-result

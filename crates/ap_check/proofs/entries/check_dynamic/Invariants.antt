@@ -1,7 +1,7 @@
 use Rattle.std.proofs.Common.{◌≡◌, ◌+◌, drop}
 use Rattle.ap_elf.specs.FirstFault.{first_fault}
 use Rattle.ap_check.specs.Rules.{dynamic_rules}
-use Rattle.ap_check.proofs.table.check_dynamic.Given as goal
+use Rattle.ap_check.proofs.entries.check_dynamic.Given as goal
 
 abbrev pub invariant-loop-p : goal.invariant-loop-p
 invariant-loop-p l = record {
