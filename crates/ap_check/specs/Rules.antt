@@ -109,6 +109,7 @@ span_rules n g loads =
     ∷ (nat_le (bytes_of_loads loads) (2 ^ 28), fault_of n 19 2 (bytes_of_loads loads))
     ∷ []
 
+-- whether a load may be executed
 abbrev pub is_executable : Entry → Bool
 is_executable p = not (bit_and p.flags 1 == 0)
 

@@ -4,8 +4,8 @@ ghost use Rattle.ap_check.specs.Rules.{Checks, size_rules};
 
 use crate::fault::{Fault, broken, demand};
 
-/// Rules 1 and 2 of the input `number`, by its size in bytes alone: it has 2^28 bytes at most (rule 1), and room for an
-/// ELF header, which is 64 bytes (rule 2).
+/// Rules 1 and 2 of the input `number`, by its size in bytes alone, so that a file that is too large needn't be read: it
+/// has at most 2^28 bytes (rule 1), and at least the 64 bytes of an ELF header (rule 2).
 pub fn check_size(size: u64, number: u8) -> Result<(), Fault>
     ensures rules { Checks result (size_rules number size) }
     ensures least { OnOk result (64 ≤ size) }
