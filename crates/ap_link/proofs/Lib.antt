@@ -1,0 +1,9 @@
+pub mod Areas
+pub mod Occurrences
+pub mod Delimiters
+pub mod Lengths
+pub mod Blocks
+pub mod Spelled
+pub mod Loaded
+pub mod Images
+pub mod Inputs

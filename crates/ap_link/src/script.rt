@@ -1,0 +1,64 @@
+// The script, and the statement in it that prints a header.
+ghost use Rattle.std.specs.Prelude.{◌≡◌, ◌++◌, OnOk};
+ghost use Rattle.ap_link.specs.Script as script;
+ghost use Rattle.ap_link.specs.Script.{octal_of, statement_of, script_before, script_behind, script_of};
+
+use std::alloc::AllocError;
+
+const BEFORE: &[u8] = b"if command -v ape >/dev/null 2>&1; then\nexec ape \"$0\" \"$@\"\nfi\n\
+    m=$(uname -m)\ns=$(uname -s)\nt=\"${TMPDIR:-/tmp}/ape.$$\"\n\
+    if [ \"$s\" = Linux ]; then\nif [ \"$m\" = x86_64 ] || [ \"$m\" = amd64 ]; then\n\
+    cp \"$0\" \"$t\" || exit 121\nchmod 700 \"$t\" || exit 122\n";
+
+const BEHIND: &[u8] = b" 1<>\"$t\" || exit 124\nexec \"$t\" \"$@\"\nfi\nfi\nexit 126\n";
+
+/// Appends the script whose statement prints the header.
+#[tactic(auto, using(std::proofs::Common::append_assoc), unfolding(crate::specs::Script::script_of))]
+pub fn push_script(out: &mut Vec<u8>, header: &[u8]) -> Result<(), AllocError>
+    ensures { OnOk result (out.new.items ≡ out.old.items ++ script_of header.now) }
+{
+    push_before(out)?;
+    push_statement(out, header)?;
+    push_behind(out)
+}
+
+#[tactic(auto, unfolding(crate::specs::Script::script_before))]
+fn push_before(out: &mut Vec<u8>) -> Result<(), AllocError>
+    ensures { OnOk result (out.new.items ≡ out.old.items ++ script_before) }
+{
+    out.extend_from_slice(BEFORE)
+}
+
+#[tactic(auto, unfolding(crate::specs::Script::script_behind))]
+fn push_behind(out: &mut Vec<u8>) -> Result<(), AllocError>
+    ensures { OnOk result (out.new.items ≡ out.old.items ++ script_behind) }
+{
+    out.extend_from_slice(BEHIND)
+}
+
+#[tactic(auto, using(std::proofs::Common::append_assoc), unfolding(crate::specs::Script::statement_of))]
+fn push_statement(out: &mut Vec<u8>, header: &[u8]) -> Result<(), AllocError>
+    ensures { OnOk result (out.new.items ≡ out.old.items ++ statement_of header.now) }
+{
+    out.extend_from_slice(b"printf '")?;
+    for c in header {
+        push_octal(out, *c)?;
+    }
+    out.extend_from_slice(b"'")
+}
+
+fn push_octal(out: &mut Vec<u8>, c: u8) -> Result<(), AllocError>
+    ensures { OnOk result (out.new.items ≡ out.old.items ++ octal_of c) }
+{
+    if is_letter(c) {
+        out.extend_from_slice(&[c])
+    } else {
+        out.extend_from_slice(&[b'\\', b'0' + c / 64, b'0' + c / 8 % 8, b'0' + c % 8])
+    }
+}
+
+fn is_letter(c: u8) -> bool
+    ensures { result ≡ script.is_letter c }
+{
+    (b'A' <= c && c <= b'Z') || (b'a' <= c && c <= b'z')
+}
