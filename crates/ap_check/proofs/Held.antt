@@ -6,9 +6,9 @@ use Rattle.std.specs.List.{list_any}
 use Rattle.ap_elf.specs.declared.types.Header.{Header}
 use Rattle.ap_elf.specs.declared.types.Entry.{Entry}
 use Rattle.ap_elf.specs.Fields.{is_load, loads_in}
-use Rattle.ap_elf.specs.Cells.{has_address}
-use Rattle.ap_elf.specs.FirstFault.{Rules, first_fault}
-use Rattle.ap_elf.proofs.FirstFaults.{append-none}
+use Rattle.ap_elf.specs.InputCell.{has_address}
+use Rattle.ap_fields.specs.FirstFault.{Rules, first_fault}
+use Rattle.ap_fields.proofs.FirstFaults.{append-none}
 use Rattle.ap_check.specs.Rules.{fault_of, size_rules, dynamic_rules, count_rules, count_of_loads_rules, built_rules, load_rules, loads_rules, span_of, bytes_of_loads, span_rules, is_executable, entry_rules, granule_at, laid_rules, table_rules}
 use Rattle.ap_check.specs.Inputs.{Taken, IsLoad, AreLoads, Meets, taken_of}
 

@@ -3,8 +3,8 @@ use Rattle.std.proofs.Common.{◌≡◌, ℕ, List, ◌++◌, length, Some, None
 use Rattle.ap_elf.specs.declared.types.Header.{Header}
 use Rattle.ap_elf.specs.declared.types.Entry.{Entry}
 use Rattle.ap_elf.specs.Fields.{header_of, entries_of}
-use Rattle.ap_elf.specs.FirstFault.{first_fault}
-use Rattle.ap_elf.proofs.FirstFaults.{some-append, append-none}
+use Rattle.ap_fields.specs.FirstFault.{first_fault}
+use Rattle.ap_fields.proofs.FirstFaults.{some-append, append-none}
 use Rattle.ap_elf.proofs.Tables.{length-entries_from}
 use Rattle.ap_check.specs.declared.fault.Fault.{Fault}
 use Rattle.ap_check.specs.Rules.{size_rules, header_rules, table_rules, input_rules, rules_of, first_fault_of}

@@ -4,7 +4,7 @@ use Rattle.std.specs.List.{list_any}
 use Rattle.ap_elf.specs.declared.types.Header.{Header}
 use Rattle.ap_elf.specs.declared.types.Entry.{Entry}
 use Rattle.ap_elf.specs.Fields.{header_of, entries_of, loads_in}
-use Rattle.ap_elf.specs.Cells.{has_address}
+use Rattle.ap_elf.specs.InputCell.{has_address}
 use Rattle.ap_check.specs.Rules.{span_of, bytes_of_loads, is_executable}
 
 -- an input that meets the rules: its length, its number, the address at which it starts, and its loads

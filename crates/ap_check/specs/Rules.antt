@@ -9,9 +9,9 @@ use Rattle.ap_fields.specs.Granules.{floor_of, ceil_of}
 use Rattle.ap_elf.specs.declared.types.Header.{Header}
 use Rattle.ap_elf.specs.declared.types.Entry.{Entry}
 use Rattle.ap_elf.specs.Fields.{header_of, entries_of, loads_in}
-use Rattle.ap_elf.specs.Cells.{has_address}
+use Rattle.ap_elf.specs.InputCell.{has_address}
 use Rattle.ap_elf.specs.ElfReading.{is_dynamic}
-use Rattle.ap_elf.specs.FirstFault.{Rules, first_fault}
+use Rattle.ap_fields.specs.FirstFault.{Rules, first_fault}
 use Rattle.ap_check.specs.declared.fault.Fault.{Fault}
 
 -- the fault of a rule, in the input number n

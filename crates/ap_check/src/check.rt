@@ -25,7 +25,7 @@ use ap_elf::{entries, header};
 /// - 20: it starts in a load that may be executed.
 ///
 /// The fields are those of the System V gABI, "ELF Header" and "Program Header"; the limits are this linker's own.
-#[tactic(auto, using(ap_elf::proofs::FirstFaults::join_steps, crate::proofs::Counts::entry_counts), unfolding(crate::specs::Rules::rules_of, crate::specs::Rules::input_rules, crate::specs::Inputs::input_of, ap_elf::specs::Fields::entries_of))]
+#[tactic(auto, using(ap_fields::proofs::FirstFaults::join_steps, crate::proofs::Counts::entry_counts), unfolding(crate::specs::Rules::rules_of, crate::specs::Rules::input_rules, crate::specs::Inputs::input_of, ap_elf::specs::Fields::entries_of))]
 pub fn check_input(b: &[u8], number: u8) -> Result<Input, Fault>
     ensures rules { Checks result (rules_of number b.now) }
     ensures taken { IfOk result (λ i. i ≡ input_of number b.now) }

@@ -12,7 +12,7 @@ use ap_fields::MOST_LOADS;
 use arrayvec::ArrayVec;
 
 /// The loads among program headers, where rules 12 and 13 hold.
-#[tactic(auto, using(ap_elf::proofs::FirstFaults::join_steps), unfolding(crate::specs::Rules::count_of_loads_rules))]
+#[tactic(auto, using(ap_fields::proofs::FirstFaults::join_steps), unfolding(crate::specs::Rules::count_of_loads_rules))]
 pub fn check_entries(entries: &[Entry], number: u8) -> Result<ArrayVec<Entry, MOST_LOADS>, Fault>
     requires { length entries.now ≤ 64 }
     ensures rules { Checks result (count_of_loads_rules number entries.now) }

@@ -7,7 +7,7 @@ use ap_elf::Header;
 use ap_fields::le32;
 
 /// Rules 3 to 11 of a file of `size` bytes. Where they hold, its program header table lies in it.
-#[tactic(auto, using(ap_elf::proofs::FirstFaults::join_steps), unfolding(crate::specs::Rules::header_rules))]
+#[tactic(auto, using(ap_fields::proofs::FirstFaults::join_steps), unfolding(crate::specs::Rules::header_rules))]
 pub fn check_header(h: &Header, size: u64, number: u8) -> Result<(), Fault>
     ensures rules { Checks result (header_rules number size h.now) }
     ensures table { OnOk result (h.now.e_phoff + 56 * h.now.e_phnum ≤ size) }

@@ -17,7 +17,7 @@ pub struct Extent {
 }
 
 /// Rules 14 to 17, load by load, of a file of `size` bytes.
-#[tactic(auto, using(ap_elf::proofs::FirstFaults::join_steps))]
+#[tactic(auto, using(ap_fields::proofs::FirstFaults::join_steps))]
 pub fn check_loads(loads: &[Entry], size: u64, granule: u64, number: u8) -> Result<Extent, Fault>
     requires granule { IsGranule granule }
     requires few { length loads.now ≤ MOST_LOADS }

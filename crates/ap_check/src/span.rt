@@ -1,7 +1,7 @@
 // Rules 19 and 20, of all loads together.
 ghost use Rattle.std.specs.Prelude.{◌≡◌, ◌<◌, ◌&&◌, length};
 ghost use Rattle.ap_fields.specs.Granules.{IsGranule};
-ghost use Rattle.ap_elf.specs.Cells.{has_address};
+ghost use Rattle.ap_elf.specs.InputCell.{has_address};
 ghost use Rattle.ap_check.specs.Rules.{Checks, span_rules, entry_rules, last_stop, bytes_of_loads, is_executable};
 
 use crate::fault::{Fault, broken};

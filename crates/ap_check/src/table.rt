@@ -13,7 +13,7 @@ use crate::span::{check_entry, check_span};
 use ap_elf::{Entry, Header};
 
 /// Rules 12 to 20 of a file of `size` bytes, and what is taken of it.
-#[tactic(auto, using(ap_elf::proofs::FirstFaults::join_steps), unfolding(crate::specs::Rules::table_rules, crate::specs::Inputs::taken_of))]
+#[tactic(auto, using(ap_fields::proofs::FirstFaults::join_steps), unfolding(crate::specs::Rules::table_rules, crate::specs::Inputs::taken_of))]
 pub fn check_table(h: &Header, entries: &[Entry], size: u64, number: u8) -> Result<Input, Fault>
     requires count { length entries.now ≡ h.now.e_phnum }
     requires few { length entries.now ≤ 64 }
@@ -34,7 +34,7 @@ pub fn check_table(h: &Header, entries: &[Entry], size: u64, number: u8) -> Resu
 }
 
 // Rules 14 to 20.
-#[tactic(auto, using(ap_elf::proofs::FirstFaults::join_steps), unfolding(crate::specs::Rules::laid_rules))]
+#[tactic(auto, using(ap_fields::proofs::FirstFaults::join_steps), unfolding(crate::specs::Rules::laid_rules))]
 fn check_laid(loads: &[Entry], entry: u64, size: u64, granule: u64, number: u8) -> Result<(), Fault>
     requires granule { IsGranule granule }
     requires some { 0 < length loads.now }

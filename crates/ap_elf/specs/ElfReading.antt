@@ -1,7 +1,7 @@
 -- The ELF reading: what a static ELF file puts into memory, for a machine and a page size (System V gABI, "Program
 -- Loading"; how much of a page a load shows is what kernels map). It is a function of the file's length, its header,
 -- its program headers and, for the cells, its bytes by their places.
-use Rattle.std.specs.Prelude.{ℕ, ◌+◌, ◌*◌, ◌-◌, ◌%◌, ◌^◌, ◌==◌, ◌&&◌, ◌||◌, not, nat_le, nat_lt, if◌then◌else◌, Bool, List, [], ◌∷◌, ◌++◌, length, slice_index, Option, Some, None, Result, Ok, Err}
+use Rattle.std.specs.Prelude.{ℕ, ◌+◌, ◌*◌, ◌-◌, ◌%◌, ◌^◌, ◌==◌, ◌&&◌, ◌||◌, not, nat_le, nat_lt, if◌then◌else◌, Bool, List, [], ◌∷◌, ◌++◌, length, slice_index, Option, Some, None, Result}
 use Rattle.ap_fields.specs.Fields.{number_at}
 use Rattle.ap_fields.specs.Granules.{floor_of, ceil_of}
 use Rattle.ap_elf.specs.declared.types.Header.{Header}
@@ -10,8 +10,9 @@ use Rattle.ap_elf.specs.declared.fault.ElfFault.{ElfFault}
 use Rattle.ap_elf.specs.declared.fault.ElfCause.{ElfCause}
 use Rattle.ap_elf.specs.declared.fault.ElfCause.TheVariants.{Short, Magic, Class, Endian, Version, FileType, Machine, TableSize, TableCount, TableRange, Dynamic, Sizes, Range, Top, Congruent, Order, NoLoad}
 use Rattle.ap_elf.specs.Fields.{header_of, entries_of, loads_in}
-use Rattle.ap_elf.specs.FirstFault.{Rules, first_fault}
-use Rattle.ap_elf.specs.Cells.{Cell, MemoryImage, permissions_of, bytes_in}
+use Rattle.ap_fields.specs.FirstFault.{Rules, first_fault}
+use Rattle.ap_fields.specs.Readings.{Cell, MemoryImage, image_unless, bytes_in}
+use Rattle.ap_elf.specs.InputCell.{permissions_of}
 
 abbrev pub refusal : ElfCause → ℕ → ℕ → ElfFault
 refusal cause item value = record { cause = cause; item = item; value = value }
@@ -82,11 +83,6 @@ abbrev pub page_cell : ℕ → ℕ → (ℕ → ℕ) → List Entry → ℕ → 
 page_cell page len byte [] a = None
 page_cell page len byte (p ∷ loads) a =
     if has_in_pages page p a then Some (page_byte len byte p a, permissions_of p) else page_cell page len byte loads a
-
--- an image, or the first fault
-abbrev pub image_unless : {Fault : Type 0} → Option Fault → MemoryImage → Result MemoryImage Fault
-image_unless None image = Ok image
-image_unless (Some fault) image = Err fault
 
 -- the reading by a header and program headers from anywhere
 abbrev pub elf_reading_by : ℕ → ℕ → ℕ → Header → List Entry → (ℕ → ℕ) → Result MemoryImage ElfFault

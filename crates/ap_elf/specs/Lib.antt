@@ -1,4 +1,3 @@
 pub mod Fields
-pub mod FirstFault
-pub mod Cells
+pub mod InputCell
 pub mod ElfReading

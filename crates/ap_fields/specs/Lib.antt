@@ -1,3 +1,5 @@
 pub mod Fields
 pub mod Bytes
 pub mod Granules
+pub mod FirstFault
+pub mod Readings

@@ -7,7 +7,7 @@ use Rattle.ap_fields.specs.Bytes.{zeros, listed}
 use Rattle.ap_fields.specs.Granules.{ceil_of}
 use Rattle.ap_fields.proofs.Bytes.{listed-slice, length-listed, get_or-listed, length-zeros, get_or-zeros}
 use Rattle.ap_elf.specs.declared.types.Entry.{Entry}
-use Rattle.ap_elf.specs.Cells.{bytes_in}
+use Rattle.ap_fields.specs.Readings.{bytes_in}
 use Rattle.ap_link.specs.Linked.{area_of}
 
 zeros-is : (n : ℕ) → zeros n ≡ replicate n 0

@@ -7,7 +7,7 @@ use Rattle.std.specs.Int.{byte_at}
 use Rattle.ap_fields.specs.Fields.{bytes_of}
 use Rattle.ap_fields.specs.Bytes.{zeros}
 use Rattle.ap_elf.specs.declared.types.Entry.{Entry}
-use Rattle.ap_elf.specs.Cells.{permissions_of}
+use Rattle.ap_elf.specs.InputCell.{permissions_of}
 use Rattle.ap_link.specs.Spelled.{spelled}
 use Rattle.ap_link.specs.ElfWritten.{table_of, area_start}
 use Rattle.ap_link.specs.Delimiter.{delimiter, delimiter_number, least_from, stands_in, without_nul}

@@ -9,10 +9,11 @@ use Rattle.ap_elf.specs.declared.types.Entry.{Entry}
 use Rattle.ap_elf.specs.declared.fault.ElfFault.{ElfFault}
 use Rattle.ap_elf.specs.declared.fault.ElfCause.TheVariants.{NoLoad}
 use Rattle.ap_elf.specs.Fields.{header_of, entries_of, loads_in, is_load}
-use Rattle.ap_elf.specs.Cells.{Cell, bytes_in, input_cell, has_address, load_byte, permissions_of}
-use Rattle.ap_elf.specs.FirstFault.{Rules, first_fault}
+use Rattle.ap_fields.specs.Readings.{Cell, bytes_in}
+use Rattle.ap_elf.specs.InputCell.{input_cell, has_address, load_byte, permissions_of}
+use Rattle.ap_fields.specs.FirstFault.{Rules, first_fault}
 use Rattle.ap_elf.specs.ElfReading.{header_rules, dynamic_rules, loads_rules, elf_rules, elf_reading, page_byte, page_cell, has_in_pages, refusal}
-use Rattle.ap_elf.proofs.FirstFaults.{none-append}
+use Rattle.ap_fields.proofs.FirstFaults.{none-append}
 use Rattle.ap_link.specs.Linkable.{IsLinkable}
 use Rattle.ap_link.specs.Same.{Same, IsBeside}
 use Rattle.ap_link.proofs.Areas.{get_or-area_of, length-area_of}

@@ -2,7 +2,7 @@
 use Rattle.std.proofs.Common.{◌≡◌, ℕ, ◌<◌, ◌≤◌, ◌+◌, List, [], ◌∷◌, length, refl, sym, ap, ◌∙◌, subst}
 use Rattle.ap_fields.specs.Bytes.{Holds, over}
 use Rattle.ap_elf.specs.declared.types.Entry.{Entry}
-use Rattle.ap_elf.specs.Cells.{bytes_in}
+use Rattle.ap_fields.specs.Readings.{bytes_in}
 use Rattle.ap_elf.specs.Fields.{header_of, entries_of, loads_in}
 use Rattle.ap_elf.specs.ElfReading.{elf_reading}
 use Rattle.ap_check.specs.Inputs.{Taken, taken_of, input_of}

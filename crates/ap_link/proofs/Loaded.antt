@@ -7,7 +7,7 @@ use Rattle.ap_fields.specs.Bytes.{zeros, over, Holds}
 use Rattle.ap_fields.proofs.Numbers.{number_at-append_right, number_at-drop, number_at-same}
 use Rattle.ap_fields.proofs.Bytes.{length-zeros, holds-part}
 use Rattle.ap_elf.specs.declared.types.Entry.{Entry}
-use Rattle.ap_elf.specs.Cells.{permissions_of}
+use Rattle.ap_elf.specs.InputCell.{permissions_of}
 use Rattle.ap_elf.specs.Fields.{header_of, entry_at, entries_of, entries_from}
 use Rattle.ap_link.specs.declared.field.Field.TheVariants.{Byte, Half, Word, Long}
 use Rattle.ap_link.specs.ElfWritten.{embedded_header, table_of, area_start}

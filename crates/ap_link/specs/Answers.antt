@@ -2,7 +2,7 @@
 use Rattle.std.specs.Prelude.{◌≡◌, ℕ, List, Vec, Result, Ok, Err, Some, None}
 use Rattle.std.specs.declared.alloc.Global.{Global}
 use Rattle.ap_fields.specs.Bytes.{Holds, over}
-use Rattle.ap_elf.specs.Cells.{bytes_in}
+use Rattle.ap_fields.specs.Readings.{bytes_in}
 use Rattle.ap_elf.specs.Fields.{header_of, entries_of, loads_in}
 use Rattle.ap_elf.specs.ElfReading.{elf_reading}
 use Rattle.ap_check.specs.Rules.{first_fault_of}

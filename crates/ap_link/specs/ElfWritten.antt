@@ -3,7 +3,7 @@
 use Rattle.std.specs.Prelude.{ℕ, ◌+◌, ◌%◌, ◌==◌, if◌then◌else◌, List, [], ◌∷◌}
 use Rattle.ap_fields.specs.declared.sizes.TheConstants.{BLOCK}
 use Rattle.ap_elf.specs.declared.types.Entry.{Entry}
-use Rattle.ap_elf.specs.Cells.{permissions_of}
+use Rattle.ap_elf.specs.InputCell.{permissions_of}
 use Rattle.ap_link.specs.declared.field.Field.{Field}
 use Rattle.ap_link.specs.declared.field.Field.TheVariants.{Byte, Half, Word, Long}
 use Rattle.ap_link.specs.Spelled.{spelled}

@@ -5,7 +5,7 @@ use Rattle.ap_fields.specs.declared.sizes.TheConstants.{BLOCK, WINDOW}
 use Rattle.ap_fields.specs.Bytes.{zeros, listed}
 use Rattle.ap_fields.specs.Granules.{ceil_of}
 use Rattle.ap_elf.specs.declared.types.Entry.{Entry}
-use Rattle.ap_elf.specs.Cells.{bytes_in}
+use Rattle.ap_fields.specs.Readings.{bytes_in}
 use Rattle.ap_elf.specs.Fields.{header_of, entries_of, loads_in}
 use Rattle.ap_link.specs.ElfWritten.{embedded_header, table_of}
 use Rattle.ap_link.specs.Delimiter.{delimiter, delimiter_number}

@@ -2,7 +2,8 @@
 use Rattle.std.specs.Prelude.{◌≡◌, ◌⊎◌, ℕ, ◌+◌, ◌≤◌, ◌<◌, List, [], ◌∷◌, Result, Ok, Err, Option, Some, None}
 use Rattle.ap_fields.specs.Granules.{floor_of, ceil_of}
 use Rattle.ap_elf.specs.declared.types.Entry.{Entry}
-use Rattle.ap_elf.specs.Cells.{Cell, MemoryImage, input_cell, permissions_of}
+use Rattle.ap_fields.specs.Readings.{Cell, MemoryImage}
+use Rattle.ap_elf.specs.InputCell.{input_cell, permissions_of}
 
 -- an address in the granules of a load
 abbrev pub IsNear : ℕ → Entry → ℕ → Type 0

@@ -1,6 +1,6 @@
 // The area of a load.
 ghost use Rattle.std.specs.Prelude.{◌≡◌, ◌≤◌, ◌<◌, ◌+◌, ◌-◌, ◌++◌, ◌^◌, length, replicate, OnOk};
-ghost use Rattle.ap_elf.specs.Cells.{bytes_in};
+ghost use Rattle.ap_fields.specs.Readings.{bytes_in};
 ghost use Rattle.ap_link.specs.Linked.{area_of};
 
 use ap_elf::Entry;

@@ -1,6 +1,6 @@
 // The linker.
 ghost use Rattle.std.specs.Prelude.{◌≡◌, ◌+◌, ◌<◌, ◌≤◌, ◌∷◌, [], IfOk, length};
-ghost use Rattle.ap_elf.specs.Cells.{bytes_in};
+ghost use Rattle.ap_fields.specs.Readings.{bytes_in};
 ghost use Rattle.ap_link.specs.Answers.{LinkAnswers};
 ghost use Rattle.ap_link.specs.Linkable.{IsLinkable};
 ghost use Rattle.ap_link.specs.Linked.{linked_by};

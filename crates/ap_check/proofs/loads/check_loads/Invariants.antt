@@ -1,5 +1,5 @@
 use Rattle.std.proofs.Common.{◌≡◌, ◌≤◌, ◌+◌, ◌*◌, ◌^◌, drop}
-use Rattle.ap_elf.specs.FirstFault.{first_fault}
+use Rattle.ap_fields.specs.FirstFault.{first_fault}
 use Rattle.ap_check.specs.Rules.{loads_rules, last_stop, bytes_of_loads}
 use Rattle.ap_check.proofs.loads.check_loads.Given as goal
 

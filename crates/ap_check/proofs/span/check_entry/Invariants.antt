@@ -1,5 +1,5 @@
 use Rattle.std.proofs.Common.{◌≡◌, drop}
-use Rattle.ap_elf.specs.FirstFault.{first_fault}
+use Rattle.ap_fields.specs.FirstFault.{first_fault}
 use Rattle.ap_check.specs.Rules.{entry_rules}
 use Rattle.ap_check.proofs.span.check_entry.Given as goal
 

@@ -1,6 +1,6 @@
 use Rattle.std.proofs.Common.{arith}
 use Rattle.std.proofs.lemmas.Grind.{common_steps}
-use Rattle.ap_elf.proofs.FirstFaults.{join_steps}
+use Rattle.ap_fields.proofs.FirstFaults.{join_steps}
 use Rattle.ap_check.specs.Rules.{table_rules}
 use Rattle.ap_check.specs.Inputs.{taken_of}
 use Rattle.ap_check.proofs.Held.{meets_from}

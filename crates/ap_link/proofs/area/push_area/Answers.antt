@@ -1,5 +1,5 @@
 use Rattle.std.proofs.Common.{◌++◌, ap, sym, ◌∙◌, append-nil}
-use Rattle.ap_elf.specs.Cells.{bytes_in}
+use Rattle.ap_fields.specs.Readings.{bytes_in}
 use Rattle.ap_link.proofs.Areas.{area_of-none}
 use Rattle.ap_link.proofs.area.push_area.Goals as goal
 

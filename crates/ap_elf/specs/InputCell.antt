@@ -1,15 +1,8 @@
--- What stands in memory at an address: a byte and permissions. The cell of an input program is that of the load which
--- has the address (System V gABI, "Program Loading").
-use Rattle.std.specs.Prelude.{ℕ, ◌+◌, ◌-◌, ◌&&◌, nat_le, nat_lt, if◌then◌else◌, Bool, List, [], ◌∷◌, slice_index, Option, Some, None, bit_and}
+-- The cell of an input program at an address: the byte and the permissions of the load that has the address (System V
+-- gABI, "Program Loading").
+use Rattle.std.specs.Prelude.{ℕ, ◌+◌, ◌-◌, ◌&&◌, nat_le, nat_lt, if◌then◌else◌, Bool, List, [], ◌∷◌, Option, Some, None, bit_and}
+use Rattle.ap_fields.specs.Readings.{Cell}
 use Rattle.ap_elf.specs.declared.types.Entry.{Entry}
-
--- a byte, and permissions: 1 execute, 2 write, 4 read
-abbrev pub Cell : Type 0
-Cell = ℕ × ℕ
-
--- a file's bytes by their places
-abbrev pub bytes_in : List ℕ → (ℕ → ℕ)
-bytes_in b = λ i. slice_index b i
 
 abbrev pub permissions_of : Entry → ℕ
 permissions_of p = bit_and p.flags 7
@@ -25,8 +18,3 @@ load_byte byte p a = if nat_lt (a - p.vaddr) p.filesz then byte (p.offset + (a -
 abbrev pub input_cell : (ℕ → ℕ) → List Entry → ℕ → Option Cell
 input_cell byte [] a = None
 input_cell byte (p ∷ loads) a = if has_address p a then Some (load_byte byte p a, permissions_of p) else input_cell byte loads a
-
--- what a file puts into memory: the address at which it starts, and the cells
-pub record MemoryImage : Type 0 where
-  pub entry : ℕ
-  pub cell : ℕ → Option Cell

@@ -1,6 +1,6 @@
 -- The first fault of rules that are joined.
 use Rattle.std.proofs.Common.{◌≡◌, [], ◌∷◌, ◌++◌, true, false, Some, None, refl}
-use Rattle.ap_elf.specs.FirstFault.{Rules, first_fault}
+use Rattle.ap_fields.specs.FirstFault.{Rules, first_fault}
 
 -- where the first rules hold, it is that of the others
 pub none-append : {F : Type 0} (a b : Rules F) → first_fault a ≡ None → first_fault (a ++ b) ≡ first_fault b
