@@ -3,14 +3,15 @@
 
 mod failure;
 mod files;
-mod memory;
-mod place;
+mod calls;
+
 mod sink;
 mod slot;
-mod steady;
+mod steady; mod store;
 
 pub use failure::{Failed, NoMemory};
 pub use files::Files;
-pub use memory::MemoryFiles;
+pub use calls::Calls; 
 pub use sink::Sink;
 pub use steady::{SteadyFiles, SteadySink};
+pub use store::Store;
