@@ -1,6 +1,6 @@
 // Which calls on files or on a sink in memory fail.
 ghost use Rattle.std.specs.Prelude.{◌≡◌, IfOk};
-ghost use Rattle.ap_files.specs.Calls.{first_numbering, is_due, after_call};
+ghost use Rattle.ap_files.specs.Calls.{first_numbering, is_due, after_call, count_taken};
 
 use std::alloc::{AllocError, Global};
 use std::marker::Model;
@@ -45,5 +45,15 @@ impl Calls {
             None
         };
         self.failing.contains(&number)
+    }
+}
+
+/// How many bytes of a piece of this size a call takes, where it takes at most so many, or all.
+pub fn count_taken(most: Option<usize>, size: usize) -> usize
+    ensures { result ≡ count_taken most size }
+{
+    match most {
+        Some(most) => most.min(size),
+        None => size,
     }
 }
