@@ -1,5 +1,5 @@
 // What a call that could not do its work answers.
-ghost use Rattle.std.specs.Prelude.{◌≡◌, ◌+◌, ◌-◌, ◌^◌, min};
+ghost use Rattle.std.specs.Prelude.{◌≡◌, ◌+◌, ◌-◌, ◌^◌, ◌≤◌, min};
 
 /// A call on a file or a sink failed, and one of the counts of its trait rose.
 #[derive(Clone, Copy, Debug, PartialEq, Eq)]
@@ -11,7 +11,8 @@ pub struct NoMemory;
 
 /// Raises the count of one kind of failed calls, which stays at its last value.
 pub(crate) fn count_failure(count: &mut u64) -> Failed
-    ensures { count.new ≡ min (count.old + 1) (2 ^ 64 - 1) }
+    ensures raised { count.new ≡ min (count.old + 1) (2 ^ 64 - 1) }
+    ensures never_falls { count.old ≤ count.new }
 {
     *count = count.saturating_add(1);
     Failed

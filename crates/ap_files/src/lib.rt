@@ -2,6 +2,8 @@
 #![tactic(auto)]
 
 mod calls;
+mod disk;
+mod disk_files;
 mod failure;
 mod files;
 mod memory;
@@ -10,10 +12,13 @@ mod sink;
 mod slot;
 mod steady;
 mod store;
+mod stream_sink;
 
+pub use disk_files::DiskFiles;
 pub use failure::{Failed, NoMemory};
 pub use files::Files;
 pub use memory::MemoryFiles;
 pub use memory_sink::MemorySink;
 pub use sink::Sink;
 pub use steady::{SteadyFiles, SteadySink};
+pub use stream_sink::{ErrSink, OutSink, StreamSink};
