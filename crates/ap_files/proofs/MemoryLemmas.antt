@@ -17,3 +17,7 @@ pub not_missing : (told held : FileMap) (name : List ℕ) (at n : ℕ) → held 
 not_missing told held name at n e h is =
     let range = h told refl in
     let same : None ≡ Some range.0 = is ∙ ap (λ m. map.get m name) e ∙ range.1 in cc
+
+-- a file whose bytes were seen
+pub seen : (held : FileMap) (name bytes : List ℕ) → Some bytes ≡ map.get held name → IsPresent (Some held) name
+seen held name bytes is told same = let one : held ≡ told = cc in (bytes, ap (λ m. map.get m name) (sym one) ∙ sym is)

@@ -1,6 +1,5 @@
 -- What a store of files means: which files it keeps, by their names, which one is unfinished, and how often its calls failed.
-use Rattle.std.specs.Prelude.{◌≡◌, ℕ, ◌+◌, ◌-◌, ◌^◌, ◌≤◌, ◌<◌, ◌⊎◌, min, List, [], ◌++◌, length, take, drop, OnOk, OnErr, IfOk, IsErr, if◌then◌else◌, unwrap_or, refl}
-use Rattle.std.specs.Coded.{Coded, code_by, coded×, coded_ℕ, coded_list, coded_option}
+use Rattle.std.specs.Prelude.{◌≡◌, ℕ, ◌+◌, ◌-◌, ◌^◌, ◌≤◌, ◌<◌, ◌⊎◌, min, List, [], ◌++◌, length, take, drop, OnOk, OnErr, IfOk, IsErr, if◌then◌else◌, unwrap_or}
 use Rattle.std.specs.Option.{option_map, ForSome, option_and_then}
 use Rattle.std.specs.declared.option.Option.{Option}
 use Rattle.std.specs.declared.option.Option.TheVariants.{Some, None}
@@ -24,19 +23,6 @@ pub record FileState : Type 0 where
   pub read_faults : ℕ
   pub write_faults : ℕ
   pub absences : ℕ
-
--- the same, as nested pairs, by which a proof tells two of them apart
-abbrev pub file_state_code : Coded FileState
-file_state_code =
-    code_by (Option FileMap × (Option (List ℕ) × (ℕ × (ℕ × ℕ))))
-    (coded× (coded_option (map.code (coded_list coded_ℕ) (coded_list coded_ℕ))) (coded× (coded_option (coded_list coded_ℕ)) (coded× coded_ℕ (coded× coded_ℕ coded_ℕ))))
-    (λ s. (s.kept, (s.unfinished, (s.read_faults, (s.write_faults, s.absences)))))
-    (λ p. record { kept = p.0; unfinished = p.1.0; read_faults = p.1.1.0; write_faults = p.1.1.1.0; absences = p.1.1.1.1 })
-    (λ _. refl)
-
--- nothing is told, and nothing has failed
-abbrev pub untold : FileState
-untold = record { kept = None; unfinished = None; read_faults = 0; write_faults = 0; absences = 0 }
 
 -- a count rose, or stands at its last value, the greatest number of 64 bits
 abbrev pub Rose : ℕ → ℕ → Type 0

@@ -1,6 +1,9 @@
 // The machine's files, whose failed calls are counted.
 ghost use Rattle.std.specs.Prelude.{◌≡◌};
-ghost use Rattle.ap_files.specs.Files.{untold};
+ghost use Rattle.ap_files.specs.Machine.{no_faults, untold_files};
+
+#[cfg(test)]
+mod tests;
 
 use crate::disk::Disk;
 use crate::failure::count_failure;
@@ -26,20 +29,17 @@ pub struct DiskFiles<R> {
 }
 
 impl<R> Model for DiskFiles<R> {
-    ghost use Rattle.std.specs.Prelude.{None};
-    ghost use Rattle.ap_files.specs.Files.{FileState, file_state_code};
+    ghost use Rattle.ap_files.specs.Machine.{Faults};
 
-    ghost Value = { FileState };
+    ghost Value = { Faults };
 
-    ghost coded = { file_state_code };
-
-    ghost view = { λ d. record { kept = None; unfinished = None; read_faults = d.read_faults; write_faults = d.write_faults; absences = 0 } };
+    ghost view = { λ d. record { read_faults = d.read_faults; write_faults = d.write_faults } };
 }
 
 impl<R: rt::Files<File = File> + AllocGlobal + Drop> DiskFiles<R> {
     /// The files of this machine.
     pub fn new(machine: R) -> DiskFiles<R>
-        ensures { result ≡ untold }
+        ensures { result ≡ no_faults }
     {
         DiskFiles {
             disk: Disk::new(machine),
@@ -57,7 +57,7 @@ impl<R: rt::Files<File = File> + AllocGlobal + Drop> DiskFiles<R> {
 }
 
 impl<R: rt::Files<File = File> + AllocGlobal + Drop> Files for DiskFiles<R> {
-    ghost state = { λ d. d };
+    ghost state = { untold_files };
 
     fn size(&mut self, name: &str) -> Result<u64, Failed> {
         match self.disk.size(name) {

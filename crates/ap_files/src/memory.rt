@@ -7,6 +7,9 @@ ghost use Rattle.ap_files.specs.Calls.{is_due, count_taken};
 ghost use Rattle.ap_files.specs.Stores.{put_in, reserved_in};
 ghost use Rattle.ap_files.specs.Memory.{state_of, empty_memory, CountsCall, is_size_failing, is_start_failing, is_add_failing};
 
+#[cfg(test)]
+mod tests;
+
 use crate::calls::{Calls, count_taken};
 use crate::failure::count_failure;
 use crate::store::Store;

@@ -1,6 +1,9 @@
 // The machine's output streams, whose failed writes are counted.
 ghost use Rattle.std.specs.Prelude.{◌≡◌};
-ghost use Rattle.ap_files.specs.Sinks.{silent};
+ghost use Rattle.ap_files.specs.Machine.{untold_stream};
+
+#[cfg(test)]
+mod tests;
 
 use crate::failure::count_failure;
 use crate::{Failed, Sink};
@@ -24,27 +27,24 @@ pub type OutSink = StreamSink<Stdout>;
 pub type ErrSink = StreamSink<Stderr>;
 
 impl<P> Model for StreamSink<P> {
-    ghost use Rattle.std.specs.Prelude.{None};
-    ghost use Rattle.ap_files.specs.Sinks.{SinkState, sink_state_code};
+    ghost use Rattle.std.specs.Prelude.{ℕ};
 
-    ghost Value = { SinkState };
+    ghost Value = { ℕ };
 
-    ghost coded = { sink_state_code };
-
-    ghost view = { λ s. record { written = None; faults = s.faults } };
+    ghost view = { λ s. s.faults };
 }
 
 impl<P: Print> StreamSink<P> {
     /// Writes to this stream.
     pub fn new(stream: P) -> StreamSink<P>
-        ensures { result ≡ silent }
+        ensures { result ≡ 0 }
     {
         StreamSink { stream, faults: 0 }
     }
 }
 
 impl<P: Print> Sink for StreamSink<P> {
-    ghost state = { λ s. s };
+    ghost state = { untold_stream };
 
     fn write(&mut self, piece: &[u8]) -> Result<usize, Failed> {
         match self.stream.write_some(piece) {
