@@ -1,0 +1,23 @@
+-- What a caller of files in memory knows of a file that is told.
+use Rattle.std.proofs.Common.{◌≡◌, ℕ, ◌+◌, ◌≤◌, List, length, refl, sym, ap, ◌∙◌, subst, Some, None, IsSome}
+use Rattle.std.specs.FinMap as map
+use Rattle.ap_files.specs.Files.{FileMap, HasRange, IsPresent}
+
+pub there : (told held : FileMap) (name : List ℕ) → held ≡ told → IsPresent (Some told) name → IsSome (map.get held name)
+there told held name e h = let present = h told refl in rw (e, present.1) refl
+
+pub ranged : (told held : FileMap) (name : List ℕ) (at n : ℕ) (bytes : List ℕ) → held ≡ told → HasRange (Some told) name at n → Some bytes ≡ map.get held name → at + n ≤ length bytes
+ranged told held name at n bytes e h is =
+    let range = h told refl in
+    let same : Some bytes ≡ Some range.0 = is ∙ ap (λ m. map.get m name) e ∙ range.1 in
+    let one : bytes ≡ range.0 = cc in
+    subst (λ b. at + n ≤ length b) (sym one) range.2
+
+pub not_missing : (told held : FileMap) (name : List ℕ) (at n : ℕ) → held ≡ told → HasRange (Some told) name at n → None ≡ map.get held name → ⊥
+not_missing told held name at n e h is =
+    let range = h told refl in
+    let same : None ≡ Some range.0 = is ∙ ap (λ m. map.get m name) e ∙ range.1 in cc
+
+-- a file whose bytes were seen
+pub seen : (held : FileMap) (name bytes : List ℕ) → Some bytes ≡ map.get held name → IsPresent (Some held) name
+seen held name bytes is told same = let one : held ≡ told = cc in (bytes, ap (λ m. map.get m name) (sym one) ∙ sym is)
