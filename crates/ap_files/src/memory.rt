@@ -45,6 +45,8 @@ impl Model for MemoryFiles {
 
 impl MemoryFiles {
     /// No files. The k-th call of `Files` fails for each k of the list, counted from 1.
+    ///
+    /// `NoMemory`: the list could not be kept.
     pub fn new(alloc: Global, fails: &[u64]) -> Result<MemoryFiles, NoMemory>
         ensures { IfOk result (λ m. m ≡ empty_memory fails.now) }
     {
@@ -63,7 +65,9 @@ impl MemoryFiles {
 
     /// Makes a file with these bytes, and room for them.
     ///
-    /// The room of a name is the greatest length that was put or reserved for it.
+    /// The room of a name is the greatest length, in bytes, that was put or reserved for it.
+    ///
+    /// `NoMemory`: the room could not be made, and nothing has changed.
     pub fn put(&mut self, name: &str, bytes: &[u8]) -> Result<(), NoMemory>
         ensures ok { OnOk result (self.new ≡ record self.old { stored = put_in self.old.stored name.now bytes.now }) }
         ensures err { OnErr result (self.new ≡ self.old) }
@@ -72,6 +76,8 @@ impl MemoryFiles {
     }
 
     /// Makes room for a file of so many bytes, and no file.
+    ///
+    /// `NoMemory`: the room could not be made, and nothing has changed.
     pub fn reserve(&mut self, name: &str, room: usize) -> Result<(), NoMemory>
         ensures ok { OnOk result (self.new ≡ record self.old { stored = reserved_in self.old.stored name.now room }) }
         ensures err { OnErr result (self.new ≡ self.old) }
@@ -79,7 +85,7 @@ impl MemoryFiles {
         self.store.reserve(name, room).map_err(|_| NoMemory)
     }
 
-    /// From now on `add` takes at most so many bytes.
+    /// From now on each `add` takes at most so many bytes, at least one.
     pub fn slow(&mut self, most: usize)
         requires { 0 < most }
         ensures { self.new ≡ record self.old { most = Some most } }

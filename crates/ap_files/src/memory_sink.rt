@@ -41,6 +41,8 @@ impl Model for MemorySink {
 impl MemorySink {
     /// Nothing is written, and there is room for so many bytes. The k-th write fails for each k of
     /// the list, counted from 1.
+    ///
+    /// `NoMemory`: the room could not be made, or the list not be kept.
     pub fn new(alloc: Global, room: usize, fails: &[u64]) -> Result<MemorySink, NoMemory>
         ensures { IfOk result (λ s. s ≡ empty_sink room fails.now) }
     {
@@ -59,7 +61,7 @@ impl MemorySink {
         })
     }
 
-    /// From now on a write takes at most so many bytes.
+    /// From now on each write takes at most so many bytes, at least one.
     pub fn slow(&mut self, most: usize)
         requires { 0 < most }
         ensures { self.new ≡ record self.old { most = Some most } }
