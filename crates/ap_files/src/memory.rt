@@ -38,7 +38,14 @@ impl Model for MemoryFiles {
 
     ghost coded = { memory_code };
 
-    ghost view = { λ m. record { stored = m.store; read_faults = m.read_faults; write_faults = m.write_faults; absences = m.absences; calls = m.calls; most = m.most } };
+    ghost view = { λ m. record {
+      stored = m.store;
+      read_faults = m.read_faults;
+      write_faults = m.write_faults;
+      absences = m.absences;
+      calls = m.calls;
+      most = m.most;
+    } };
 
     ghost invariant = { λ m. ForSome m.most (λ n. 0 < n) };
 }
@@ -69,7 +76,9 @@ impl MemoryFiles {
     ///
     /// `NoMemory`: the room could not be made, and nothing has changed.
     pub fn put(&mut self, name: &str, bytes: &[u8]) -> Result<(), NoMemory>
-        ensures ok { OnOk result (self.new ≡ record self.old { stored = put_in self.old.stored name.now bytes.now }) }
+        ensures ok { OnOk result (
+            self.new ≡ record self.old { stored = put_in self.old.stored name.now bytes.now }
+            ) }
         ensures err { OnErr result (self.new ≡ self.old) }
     {
         self.store.put(name, bytes).map_err(|_| NoMemory)
@@ -79,7 +88,9 @@ impl MemoryFiles {
     ///
     /// `NoMemory`: the room could not be made, and nothing has changed.
     pub fn reserve(&mut self, name: &str, room: usize) -> Result<(), NoMemory>
-        ensures ok { OnOk result (self.new ≡ record self.old { stored = reserved_in self.old.stored name.now room }) }
+        ensures ok { OnOk result (
+            self.new ≡ record self.old { stored = reserved_in self.old.stored name.now room }
+            ) }
         ensures err { OnErr result (self.new ≡ self.old) }
     {
         self.store.reserve(name, room).map_err(|_| NoMemory)

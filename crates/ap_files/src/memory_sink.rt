@@ -33,9 +33,17 @@ impl Model for MemorySink {
 
     ghost coded = { gathered_code };
 
-    ghost view = { λ s. record { written = s.written.items; room = s.room; faults = s.faults; calls = s.calls; most = s.most } };
+    ghost view = { λ s. record {
+      written = s.written.items;
+      room = s.room;
+      faults = s.faults;
+      calls = s.calls;
+      most = s.most;
+    } };
 
-    ghost invariant = { λ s. (vec_len s.written ≤ s.room) × (s.room ≤ vec_capacity s.written) × ForSome s.most (λ n. 0 < n) };
+    ghost invariant = { λ s. (vec_len s.written ≤ s.room)
+        × (s.room ≤ vec_capacity s.written)
+        × ForSome s.most (λ n. 0 < n) };
 }
 
 impl MemorySink {

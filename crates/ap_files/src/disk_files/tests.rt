@@ -283,7 +283,7 @@ impl Scene {
     }
 }
 
-// A new folder of the machine's.
+/// A new folder of the machine's.
 fn new_folder(rt: HostRuntime) -> io::Result<PathBuf> {
     for number in 0..1000 {
         let path = format!(in rt.alloc(); "/tmp/ap_files.{number}")?;
