@@ -15,7 +15,11 @@ pub record Numbering : Type 0 where
 -- the same, as a pair, by which a proof tells two of them apart
 abbrev pub numbering_code : Coded Numbering
 numbering_code =
-    code_by (List ℕ × Option ℕ) (coded× (coded_list coded_ℕ) (coded_option coded_ℕ)) (λ n. (n.failing, n.next)) (λ p. record { failing = p.0; next = p.1 }) (λ _. refl)
+    code_by (List ℕ × Option ℕ)
+    (coded× (coded_list coded_ℕ) (coded_option coded_ℕ))
+    (λ n. (n.failing, n.next))
+    (λ p. record { failing = p.0; next = p.1 })
+    (λ _. refl)
 
 -- before the first call
 abbrev pub first_numbering : List ℕ → Numbering
@@ -25,6 +29,7 @@ first_numbering failing = record { failing = failing; next = Some 1 }
 abbrev pub is_due : Numbering → Bool
 is_due calls = option_map_or (λ n. list_any (λ k. nat_eq k n) calls.failing) calls.next false
 
+-- the next number of 64 bits, where there is one
 abbrev pub number_after : ℕ → Option ℕ
 number_after n = if nat_lt n (2 ^ 64 - 1) then Some (n + 1) else None
 

@@ -14,7 +14,13 @@ no_faults = record { read_faults = 0; write_faults = 0 }
 -- no file is told, and no absence is counted
 abbrev pub untold_files : Faults → FileState
 untold_files f =
-    record { kept = None; unfinished = None; read_faults = f.read_faults; write_faults = f.write_faults; absences = 0 }
+    record {
+      kept = None;
+      unfinished = None;
+      read_faults = f.read_faults;
+      write_faults = f.write_faults;
+      absences = 0;
+    }
 
 -- nothing is told of what was written
 abbrev pub untold_stream : ℕ → SinkState

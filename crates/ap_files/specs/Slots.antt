@@ -1,5 +1,5 @@
 -- What slots keep: for each name the room of its file, and the file, where it is there.
-use Rattle.std.specs.Prelude.{ℕ, List, [], ◌∷◌, slice_get}
+use Rattle.std.specs.Prelude.{ℕ, List, [], ◌∷◌, slice_get, unwrap_or}
 use Rattle.std.specs.Option.{option_map, option_and_then}
 use Rattle.std.specs.declared.option.Option.{Option}
 use Rattle.std.specs.declared.option.Option.TheVariants.{Some, None}
@@ -14,6 +14,14 @@ pub record FileSlot : Type 0 where
   pub room : ℕ
   -- the bytes of the file, where it is there
   pub file : Option (List ℕ)
+
+-- the bytes of a slot's file, and none where it isn't there
+abbrev pub slot_bytes : FileSlot → List ℕ
+slot_bytes s = unwrap_or s.file []
+
+-- a slot whose file has these bytes
+abbrev pub slot_with : FileSlot → List ℕ → FileSlot
+slot_with s bytes = record s { file = Some bytes }
 
 -- from the bytes of a name to what stands under it
 abbrev pub NameMap : Type 0 → Type 0

@@ -66,7 +66,7 @@ impl<R: Files<File = File> + AllocGlobal + Drop> Disk<R> {
         Ok(())
     }
 
-    // The file of this name that is open, or opened now.
+    /// The file of this name that is open, or opened now.
     fn opened(&mut self, name: &str) -> io::Result<OpenedFile> {
         match self.read.take() {
             Some(opened) if opened.name.as_str() == name => Ok(opened),
@@ -146,10 +146,10 @@ fn open_to_write<R: Files<File = File> + AllocGlobal>(
     }
 }
 
-// The most symbolic links that a name may lead through, as in Linux (path_resolution(7)).
+/// The most symbolic links that a name may lead through, as in Linux (path_resolution(7)).
 const MOST_LINKS: u32 = 40;
 
-// The path that a name leads to by symbolic links, also where nothing stands there.
+/// The path that a name leads to by symbolic links, also where nothing stands there.
 fn followed<R: Files + AllocGlobal>(machine: &R, name: &str) -> io::Result<String> {
     let mut path = PathBuf::from_str(machine.alloc(), name)?;
     for _ in 0..MOST_LINKS {
@@ -164,7 +164,7 @@ fn followed<R: Files + AllocGlobal>(machine: &R, name: &str) -> io::Result<Strin
     Err(io::Error::from(ErrorKind::FilesystemLoop))
 }
 
-// A new file beside a path, named by it and by the least number that is free.
+/// A new file beside a path, named by it and by the least number that is free.
 fn create_beside<R: Files<File = File> + AllocGlobal>(
     machine: &R,
     target: String,
@@ -180,7 +180,7 @@ fn create_beside<R: Files<File = File> + AllocGlobal>(
     Err(io::Error::from(ErrorKind::AlreadyExists))
 }
 
-// One write, which takes at least a byte where there is one.
+/// One write, which takes at least a byte where there is one.
 fn write_some(file: &mut File, piece: &[u8]) -> io::Result<usize>
     ensures { IfOk result (λ n. (n ≤ length piece.now) × (0 < length piece.now → 0 < n)) }
 {

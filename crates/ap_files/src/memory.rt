@@ -38,13 +38,22 @@ impl Model for MemoryFiles {
 
     ghost coded = { memory_code };
 
-    ghost view = { λ m. record { stored = m.store; read_faults = m.read_faults; write_faults = m.write_faults; absences = m.absences; calls = m.calls; most = m.most } };
+    ghost view = { λ m. record {
+      stored = m.store;
+      read_faults = m.read_faults;
+      write_faults = m.write_faults;
+      absences = m.absences;
+      calls = m.calls;
+      most = m.most;
+    } };
 
     ghost invariant = { λ m. ForSome m.most (λ n. 0 < n) };
 }
 
 impl MemoryFiles {
     /// No files. The k-th call of `Files` fails for each k of the list, counted from 1.
+    ///
+    /// `NoMemory`: the list could not be kept.
     pub fn new(alloc: Global, fails: &[u64]) -> Result<MemoryFiles, NoMemory>
         ensures { IfOk result (λ m. m ≡ empty_memory fails.now) }
     {
@@ -63,23 +72,31 @@ impl MemoryFiles {
 
     /// Makes a file with these bytes, and room for them.
     ///
-    /// The room of a name is the greatest length that was put or reserved for it.
+    /// The room of a name is the greatest length, in bytes, that was put or reserved for it.
+    ///
+    /// `NoMemory`: the room could not be made, and nothing has changed.
     pub fn put(&mut self, name: &str, bytes: &[u8]) -> Result<(), NoMemory>
-        ensures ok { OnOk result (self.new ≡ record self.old { stored = put_in self.old.stored name.now bytes.now }) }
+        ensures ok { OnOk result (
+            self.new ≡ record self.old { stored = put_in self.old.stored name.now bytes.now }
+            ) }
         ensures err { OnErr result (self.new ≡ self.old) }
     {
         self.store.put(name, bytes).map_err(|_| NoMemory)
     }
 
     /// Makes room for a file of so many bytes, and no file.
+    ///
+    /// `NoMemory`: the room could not be made, and nothing has changed.
     pub fn reserve(&mut self, name: &str, room: usize) -> Result<(), NoMemory>
-        ensures ok { OnOk result (self.new ≡ record self.old { stored = reserved_in self.old.stored name.now room }) }
+        ensures ok { OnOk result (
+            self.new ≡ record self.old { stored = reserved_in self.old.stored name.now room }
+            ) }
         ensures err { OnErr result (self.new ≡ self.old) }
     {
         self.store.reserve(name, room).map_err(|_| NoMemory)
     }
 
-    /// From now on `add` takes at most so many bytes.
+    /// From now on each `add` takes at most so many bytes, at least one.
     pub fn slow(&mut self, most: usize)
         requires { 0 < most }
         ensures { self.new ≡ record self.old { most = Some most } }

@@ -33,14 +33,24 @@ impl Model for MemorySink {
 
     ghost coded = { gathered_code };
 
-    ghost view = { λ s. record { written = s.written.items; room = s.room; faults = s.faults; calls = s.calls; most = s.most } };
+    ghost view = { λ s. record {
+      written = s.written.items;
+      room = s.room;
+      faults = s.faults;
+      calls = s.calls;
+      most = s.most;
+    } };
 
-    ghost invariant = { λ s. (vec_len s.written ≤ s.room) × (s.room ≤ vec_capacity s.written) × ForSome s.most (λ n. 0 < n) };
+    ghost invariant = { λ s. (vec_len s.written ≤ s.room)
+        × (s.room ≤ vec_capacity s.written)
+        × ForSome s.most (λ n. 0 < n) };
 }
 
 impl MemorySink {
     /// Nothing is written, and there is room for so many bytes. The k-th write fails for each k of
     /// the list, counted from 1.
+    ///
+    /// `NoMemory`: the room could not be made, or the list not be kept.
     pub fn new(alloc: Global, room: usize, fails: &[u64]) -> Result<MemorySink, NoMemory>
         ensures { IfOk result (λ s. s ≡ empty_sink room fails.now) }
     {
@@ -59,7 +69,7 @@ impl MemorySink {
         })
     }
 
-    /// From now on a write takes at most so many bytes.
+    /// From now on each write takes at most so many bytes, at least one.
     pub fn slow(&mut self, most: usize)
         requires { 0 < most }
         ensures { self.new ≡ record self.old { most = Some most } }

@@ -1,12 +1,12 @@
 // Files in memory, each in the room that was made for it.
-ghost use Rattle.std.specs.Prelude.{◌≡◌, ◌+◌, ◌<◌, ◌≤◌, ◌++◌, [], length, take, nat_le, position, MatchOption, IfSome, IsSome, OnOk, OnErr, Some, unwrap_or};
+ghost use Rattle.std.specs.Prelude.{◌≡◌, ◌<◌, ◌≤◌, length, take, position, MatchOption, IfSome, IsSome, OnOk, OnErr};
 ghost use Rattle.std.specs.Bool.{OnTrue, OnFalse};
 ghost use Rattle.std.specs.Option.{option_copied};
 ghost use Rattle.std.specs.Str.{bytes_eq};
 ghost use Rattle.std.specs.FinMap as map;
-ghost use Rattle.ap_files.specs.Files.{bytes_in, after_finish};
+ghost use Rattle.ap_files.specs.Files.{after_finish};
 ghost use Rattle.ap_files.specs.Places.{IsFirst, IsNowhere};
-ghost use Rattle.ap_files.specs.Stores.{nothing_stored, reserved_in, put_in};
+ghost use Rattle.ap_files.specs.Stores.{nothing_stored, reserved_in, put_in, started_in, added_in, has_room_for};
 
 use crate::slot::Slot;
 use std::alloc::{AllocError, Global};
@@ -85,7 +85,7 @@ impl Store {
     /// Makes or empties the file of a name that has a room, and answers whether it has one.
     pub fn start(&mut self, name: &str) -> bool
         ensures has_room { result ≡ map.contains_key self.old.rooms name.now }
-        ensures started { OnTrue result (self.new ≡ record self.old { files = map.insert self.old.files name.now []; unfinished = Some name.now }) }
+        ensures started { OnTrue result (self.new ≡ started_in self.old name.now) }
         ensures no_room { OnFalse result (self.new ≡ self.old) }
     {
         let Some(i) = find(&self.slots, name) else {
@@ -100,8 +100,8 @@ impl Store {
     pub fn append(&mut self, name: &str, piece: &[u8], count: usize) -> bool
         requires there { IsSome (map.get self.old.files name.now) }
         requires count { count ≤ length piece.now }
-        ensures fits { result ≡ nat_le (length (bytes_in self.old.files name.now) + length piece.now) (unwrap_or (map.get self.old.rooms name.now) 0) }
-        ensures appended { OnTrue result (self.new ≡ record self.old { files = map.insert self.old.files name.now (bytes_in self.old.files name.now ++ take count piece.now); unfinished = Some name.now }) }
+        ensures fits { result ≡ has_room_for self.old name.now (length piece.now) }
+        ensures appended { OnTrue result (self.new ≡ added_in self.old name.now (take count piece.now)) }
         ensures full { OnFalse result (self.new ≡ self.old) }
     {
         let Some(i) = find(&self.slots, name) else {
@@ -131,8 +131,7 @@ fn find(slots: &[Slot], name: &str) -> Option<usize>
     ensures below { IfSome result (λ i. i < length slots.now) }
     ensures place { MatchOption result (IsNowhere slots.now name.now) (IsFirst slots.now name.now) }
 {
-    let place = search(slots, name);
-    place
+    search(slots, name)
 }
 
 fn search(slots: &[Slot], name: &str) -> Option<usize>

@@ -1,184 +1,310 @@
-// What the machine's files hold after calls on them, in a folder of the test's own.
+// What stands on the machine after calls on its files.
 use super::DiskFiles;
 use crate::{Failed, Files};
 use std::os::unix::fs::{PermissionsExt, symlink};
+use std::path::PathBuf;
 use std::test::Fail;
 use std::{fs, io};
 
-/// A new folder of the machine's, which `remove` removes.
-#[derive(Drop)]
-struct Folder {
-    rt: HostRuntime,
-    path: String,
+/// A step of a case, by names in a folder of its own.
+#[derive(Clone, Copy)]
+enum Step {
+    /// A file is made with these bytes, by another program.
+    Make(&'static str, &'static [u8]),
+    /// A name becomes a symbolic link to another.
+    Link(&'static str, &'static str),
+    /// A name becomes another name of the same file.
+    Alias(&'static str, &'static str),
+    Remove(&'static str),
+    /// The calls of `Files` and of `DiskFiles`.
+    Size(&'static str, u64),
+    Read(&'static str, u64, &'static [u8]),
+    Start(&'static str),
+    Add(&'static str, &'static [u8]),
+    Finish(&'static str),
+    Discard,
+    /// A file has these bytes.
+    Holds(&'static str, &'static [u8]),
+    /// A file has this mode.
+    Mode(&'static str, u32),
+    IsLink(&'static str),
+    /// The folder has so many names.
+    Names(usize),
 }
 
-impl Folder {
-    fn new(rt: HostRuntime) -> io::Result<Folder> {
-        for number in 0..1000 {
-            let path = format!(in rt.alloc(); "/tmp/ap_files.{number}")?;
-            if fs::create_dir(&rt, path.as_str()).is_ok() {
-                return Ok(Folder { rt, path });
-            }
+/// The steps, each with whether it is done, and the counts of failed reads and writes after them.
+struct Case {
+    steps: &'static [(Step, bool)],
+    faults: (u64, u64),
+}
+
+static CASES: [Case; 8] = [
+    // a file stands under its name once it is finished, and whole
+    Case {
+        steps: &[
+            (Step::Start("out"), true),
+            (Step::Add("out", b"ab"), true),
+            (Step::Add("out", b""), true),
+            (Step::Holds("out", b"ab"), false),
+            (Step::Add("out", b"c"), true),
+            (Step::Finish("out"), true),
+            (Step::Holds("out", b"abc"), true),
+            (Step::Mode("out", 0o755), true),
+            (Step::Discard, true),
+            (Step::Names(1), true),
+            (Step::Size("out", 3), true),
+        ],
+        faults: (0, 0),
+    },
+    // an unfinished file is removed, and what stood there stays
+    Case {
+        steps: &[
+            (Step::Make("out", b"old"), true),
+            (Step::Start("out"), true),
+            (Step::Add("out", b"new"), true),
+            (Step::Names(2), true),
+            (Step::Discard, true),
+            (Step::Names(1), true),
+            (Step::Holds("out", b"old"), true),
+            (Step::Add("out", b"new"), false),
+        ],
+        faults: (0, 1),
+    },
+    // a new name is one that nothing has
+    Case {
+        steps: &[
+            (Step::Make("out.0", b"other"), true),
+            (Step::Start("out"), true),
+            (Step::Add("out", b"new"), true),
+            (Step::Finish("out"), true),
+            (Step::Holds("out.0", b"other"), true),
+            (Step::Holds("out", b"new"), true),
+            (Step::Names(2), true),
+        ],
+        faults: (0, 0),
+    },
+    // an input that is the output by another spelling is read as it was, and so is another link
+    Case {
+        steps: &[
+            (Step::Make("in", b"old"), true),
+            (Step::Alias("in", "other"), true),
+            (Step::Start("in"), true),
+            (Step::Read("./in", 0, b"ol"), true),
+            (Step::Add("in", b"new"), true),
+            (Step::Finish("in"), true),
+            (Step::Read("./in", 1, b"ld"), true),
+            (Step::Holds("in", b"new"), true),
+            (Step::Holds("other", b"old"), true),
+        ],
+        faults: (0, 0),
+    },
+    // what is open is used on, although its name is gone
+    Case {
+        steps: &[
+            (Step::Make("in", b"abc"), true),
+            (Step::Size("in", 3), true),
+            (Step::Remove("in"), true),
+            (Step::Start("out"), true),
+            (Step::Read("in", 0, b"abc"), true),
+            (Step::Remove("out.0"), true),
+            (Step::Add("out", b"a"), true),
+            (Step::Read("in", 1, b"bc"), true),
+            (Step::Add("out", b"b"), true),
+            (Step::Read("in", 2, b"c."), false),
+            (Step::Size("in", 3), false),
+        ],
+        faults: (2, 0),
+    },
+    // a symbolic link is followed, also to where nothing stands
+    Case {
+        steps: &[
+            (Step::Make("file", b"old"), true),
+            (Step::Link("second", "first"), true),
+            (Step::Link("file", "second"), true),
+            (Step::Link("missing", "third"), true),
+            (Step::Start("first"), true),
+            (Step::Add("first", b"new"), true),
+            (Step::Finish("first"), true),
+            (Step::Start("third"), true),
+            (Step::Finish("third"), true),
+            (Step::IsLink("first"), true),
+            (Step::Holds("file", b"new"), true),
+            (Step::IsLink("third"), true),
+            (Step::Holds("missing", b""), true),
+            (Step::Names(5), true),
+        ],
+        faults: (0, 0),
+    },
+    // a device is written in place, and gets no mode and no new name
+    Case {
+        steps: &[
+            (Step::Start("/dev/null"), true),
+            (Step::Add("/dev/null", b"abc"), true),
+            (Step::Finish("/dev/null"), true),
+            (Step::Mode("/dev/null", 0o755), false),
+            (Step::Names(0), true),
+        ],
+        faults: (0, 0),
+    },
+    // what the machine refuses fails
+    Case {
+        steps: &[
+            (Step::Size(".", 0), false),
+            (Step::Size("missing", 0), false),
+            (Step::Read("missing", 0, b""), false),
+            (Step::Start("."), false),
+            (Step::Start("missing/out"), false),
+            (Step::Add("missing/out", b"a"), false),
+            (Step::Finish("missing/out"), false),
+            (Step::Names(0), true),
+        ],
+        faults: (3, 4),
+    },
+];
+
+/// A machine's files, and a new folder in which the names of the steps are.
+#[derive(Drop)]
+struct Scene {
+    rt: HostRuntime,
+    folder: PathBuf,
+    files: DiskFiles<HostRuntime>,
+}
+
+impl Scene {
+    fn new(rt: HostRuntime) -> io::Result<Scene> {
+        Ok(Scene {
+            rt,
+            folder: new_folder(rt)?,
+            files: DiskFiles::new(rt),
+        })
+    }
+
+    fn is_done(&mut self, step: Step) -> bool {
+        match step {
+            Step::Make(name, bytes) => self.make(name, bytes).is_ok(),
+            Step::Link(to, name) => self.link(to, name).is_ok(),
+            Step::Alias(name, other) => self.alias(name, other).is_ok(),
+            Step::Remove(name) => self.remove(name).is_ok(),
+            Step::Size(name, wanted) => self.size(name).is_ok_and(|size| size == wanted),
+            Step::Read(name, at, wanted) => self.reads(name, at, wanted).unwrap_or(false),
+            Step::Start(name) => self.start(name).is_ok(),
+            Step::Add(name, piece) => self.add(name, piece).unwrap_or(99) == piece.len(),
+            Step::Finish(name) => self.finish(name).is_ok(),
+            Step::Discard => self.discard(),
+            Step::Holds(name, bytes) => self.holds(name, bytes).unwrap_or(false),
+            Step::Mode(name, wanted) => self.mode(name).unwrap_or(0) == wanted,
+            Step::IsLink(name) => self.is_link(name).unwrap_or(false),
+            Step::Names(wanted) => self.names().unwrap_or(99) == wanted,
         }
-        Err(io::Error::from(io::ErrorKind::AlreadyExists))
     }
 
     fn path(&self, name: &str) -> io::Result<String> {
-        let path = self.path.as_str();
-        Ok(format!(in self.rt.alloc(); "{path}/{name}")?)
+        let path = self.folder.join(self.rt.alloc(), name)?;
+        Ok(path.into_string())
     }
 
-    fn put(&self, name: &str, bytes: &[u8]) -> io::Result<()> {
-        fs::write(&self.rt, self.path(name)?, bytes)
+    fn size(&mut self, name: &str) -> Result<u64, Failed> {
+        let path = self.path(name).map_err(|_| Failed)?;
+        self.files.size(path.as_str())
+    }
+
+    fn reads(&mut self, name: &str, at: u64, wanted: &[u8]) -> Result<bool, Failed> {
+        let path = self.path(name).map_err(|_| Failed)?;
+        let mut buf = [0u8; 8];
+        let count = wanted.len().min(8);
+        self.files.read_at(path.as_str(), at, &mut buf[..count])?;
+        Ok(&buf[..count] == wanted)
+    }
+
+    fn start(&mut self, name: &str) -> Result<(), Failed> {
+        let path = self.path(name).map_err(|_| Failed)?;
+        self.files.start(path.as_str())
+    }
+
+    fn add(&mut self, name: &str, piece: &[u8]) -> Result<usize, Failed> {
+        let path = self.path(name).map_err(|_| Failed)?;
+        self.files.add(path.as_str(), piece)
+    }
+
+    fn finish(&mut self, name: &str) -> Result<(), Failed> {
+        let path = self.path(name).map_err(|_| Failed)?;
+        self.files.finish(path.as_str())
+    }
+
+    fn discard(&mut self) -> bool {
+        self.files.discard();
+        true
+    }
+
+    fn make(&self, name: &str, bytes: &[u8]) -> io::Result<()> {
+        let path = self.path(name)?;
+        fs::write(&self.rt, path, bytes)
+    }
+
+    fn link(&self, to: &str, name: &str) -> io::Result<()> {
+        let path = self.path(name)?;
+        symlink(&self.rt, to, path)
+    }
+
+    fn alias(&self, name: &str, other: &str) -> io::Result<()> {
+        let path = self.path(name)?;
+        let other = self.path(other)?;
+        fs::hard_link(&self.rt, path, other)
+    }
+
+    fn remove(&self, name: &str) -> io::Result<()> {
+        let path = self.path(name)?;
+        fs::remove_file(&self.rt, path)
     }
 
     fn holds(&self, name: &str, bytes: &[u8]) -> io::Result<bool> {
-        Ok(fs::read(&self.rt, self.path(name)?)?.as_slice() == bytes)
+        let path = self.path(name)?;
+        let held = fs::read(&self.rt, path)?;
+        Ok(held.as_slice() == bytes)
     }
 
-    // How many names the folder has.
-    fn len(&self) -> io::Result<usize> {
+    fn mode(&self, name: &str) -> io::Result<u32> {
+        let path = self.path(name)?;
+        Ok(fs::metadata(&self.rt, path)?.permissions().mode() & 0o777)
+    }
+
+    fn is_link(&self, name: &str) -> io::Result<bool> {
+        let path = self.path(name)?;
+        Ok(fs::symlink_metadata(&self.rt, path)?.is_symlink())
+    }
+
+    fn names(&self) -> io::Result<usize> {
         let mut count = 0usize;
-        for entry in fs::read_dir(&self.rt, self.path.as_str())? {
+        for entry in fs::read_dir(&self.rt, self.folder.as_path())? {
             let _ = entry?;
             count = count.saturating_add(1);
         }
         Ok(count)
     }
+}
 
-    fn remove(self) -> io::Result<()> {
-        fs::remove_dir_all(&self.rt, self.path.as_str())
+/// A new folder of the machine's.
+fn new_folder(rt: HostRuntime) -> io::Result<PathBuf> {
+    for number in 0..1000 {
+        let path = format!(in rt.alloc(); "/tmp/ap_files.{number}")?;
+        if fs::create_dir(&rt, path.as_str()).is_ok() {
+            return Ok(PathBuf::from_str(rt.alloc(), path.as_str())?);
+        }
     }
+    Err(io::Error::from(io::ErrorKind::AlreadyExists))
 }
 
 #[test]
-fn a_finished_file_stands_whole_under_its_name(rt: HostRuntime) -> Result<(), Fail> {
-    let folder = Folder::new(rt)?;
-    let out = folder.path("out")?;
-    let mut files = DiskFiles::new(rt);
-    files.start(out.as_str())?;
-    assert_eq!(rt; files.add(out.as_str(), b"ab"), Ok(2));
-    assert_eq!(rt; files.add(out.as_str(), b""), Ok(0));
-    assert!(rt; !fs::exists(&rt, out.as_str())?);
-    assert_eq!(rt; files.add(out.as_str(), b"c"), Ok(1));
-    files.finish(out.as_str())?;
-    assert!(rt; folder.holds("out", b"abc")?);
-    let mode = fs::metadata(&rt, out.as_str())?.permissions().mode();
-    assert_eq!(rt; mode & 0o777, 0o755);
-    files.discard();
-    assert_eq!(rt; folder.len()?, 1);
-    assert_eq!(rt; files.size(out.as_str()), Ok(3));
-    folder.remove()?;
-    Ok(())
-}
-
-#[test]
-fn an_unfinished_file_is_removed(rt: HostRuntime) -> Result<(), Fail> {
-    let folder = Folder::new(rt)?;
-    let out = folder.path("out")?;
-    folder.put("out", b"old")?;
-    let mut files = DiskFiles::new(rt);
-    files.start(out.as_str())?;
-    let _ = files.add(out.as_str(), b"new")?;
-    assert_eq!(rt; folder.len()?, 2);
-    files.discard();
-    assert_eq!(rt; folder.len()?, 1);
-    assert!(rt; folder.holds("out", b"old")?);
-    assert_eq!(rt; files.add(out.as_str(), b"new"), Err(Failed));
-    folder.remove()?;
-    Ok(())
-}
-
-// The input is the output by another spelling, and has another link.
-#[test]
-fn an_input_that_is_the_output_is_read_as_it_was(rt: HostRuntime) -> Result<(), Fail> {
-    let folder = Folder::new(rt)?;
-    folder.put("in", b"old")?;
-    let (input, out) = (folder.path("./in")?, folder.path("in")?);
-    fs::hard_link(&rt, out.as_str(), folder.path("other")?)?;
-    let mut files = DiskFiles::new(rt);
-    files.start(out.as_str())?;
-    let mut bytes = [0u8; 2];
-    files.read_at(input.as_str(), 0, &mut bytes)?;
-    let _ = files.add(out.as_str(), b"new")?;
-    files.finish(out.as_str())?;
-    files.read_at(input.as_str(), 1, &mut bytes)?;
-    assert!(rt; bytes == *b"ld");
-    assert!(rt; folder.holds("in", b"new")?);
-    assert!(rt; folder.holds("other", b"old")?);
-    folder.remove()?;
-    Ok(())
-}
-
-// What is open is used on, although its name is gone.
-#[test]
-fn runs_of_calls_open_a_file_once(rt: HostRuntime) -> Result<(), Fail> {
-    let folder = Folder::new(rt)?;
-    folder.put("in", b"abc")?;
-    let (input, out) = (folder.path("in")?, folder.path("out")?);
-    let mut files = DiskFiles::new(rt);
-    assert_eq!(rt; files.size(input.as_str()), Ok(3));
-    fs::remove_file(&rt, input.as_str())?;
-    files.start(out.as_str())?;
-    let mut bytes = [0u8; 3];
-    files.read_at(input.as_str(), 0, &mut bytes)?;
-    assert!(rt; bytes == *b"abc");
-    fs::remove_file(&rt, folder.path("out.0")?)?;
-    assert_eq!(rt; files.add(out.as_str(), b"a"), Ok(1));
-    files.read_at(input.as_str(), 1, &mut bytes[..2])?;
-    assert_eq!(rt; files.add(out.as_str(), b"b"), Ok(1));
-    assert_eq!(rt; files.read_at(input.as_str(), 2, &mut bytes), Err(Failed));
-    folder.remove()?;
-    Ok(())
-}
-
-#[test]
-fn a_symbolic_link_is_followed(rt: HostRuntime) -> Result<(), Fail> {
-    let folder = Folder::new(rt)?;
-    folder.put("file", b"old")?;
-    symlink(&rt, "link", folder.path("first")?)?;
-    symlink(&rt, "file", folder.path("link")?)?;
-    symlink(&rt, "missing", folder.path("second")?)?;
-    let mut files = DiskFiles::new(rt);
-    for name in ["first", "second"] {
-        let out = folder.path(name)?;
-        files.start(out.as_str())?;
-        let _ = files.add(out.as_str(), b"new")?;
-        files.finish(out.as_str())?;
-        assert!(rt; fs::symlink_metadata(&rt, out.as_str())?.is_symlink());
+fn files_stand_as_asked(rt: HostRuntime) -> Result<(), Fail> {
+    for (number, case) in CASES.iter().enumerate() {
+        let mut scene = Scene::new(rt)?;
+        for (place, (step, wanted)) in case.steps.iter().enumerate() {
+            let is_done = scene.is_done(*step);
+            assert!(rt; is_done == *wanted, "case {number}, step {place}");
+        }
+        let faults = (scene.files.read_faults, scene.files.write_faults);
+        assert_eq!(rt; faults, case.faults, "case {number}");
+        fs::remove_dir_all(&rt, scene.folder.as_path())?;
     }
-    assert!(rt; folder.holds("file", b"new")?);
-    assert!(rt; folder.holds("missing", b"new")?);
-    assert_eq!(rt; folder.len()?, 5);
-    folder.remove()?;
-    Ok(())
-}
-
-#[test]
-fn a_device_is_written_in_place(rt: HostRuntime) -> Result<(), Fail> {
-    let mut files = DiskFiles::new(rt);
-    files.start("/dev/null")?;
-    assert_eq!(rt; files.add("/dev/null", b"abc"), Ok(3));
-    files.finish("/dev/null")?;
-    assert!(rt; !fs::metadata(&rt, "/dev/null")?.is_file());
-    Ok(())
-}
-
-#[test]
-fn what_the_machine_refuses_fails(rt: HostRuntime) -> Result<(), Fail> {
-    let folder = Folder::new(rt)?;
-    let (path, missing) = (folder.path(".")?, folder.path("missing")?);
-    let below = folder.path("missing/out")?;
-    let mut files = DiskFiles::new(rt);
-    assert_eq!(rt; files.size(path.as_str()), Err(Failed));
-    assert_eq!(rt; files.size(missing.as_str()), Err(Failed));
-    assert_eq!(rt; files.read_at(missing.as_str(), 0, &mut [0]), Err(Failed));
-    assert_eq!(rt; files.start(path.as_str()), Err(Failed));
-    assert_eq!(rt; files.start(below.as_str()), Err(Failed));
-    assert_eq!(rt; files.add(below.as_str(), b"a"), Err(Failed));
-    assert_eq!(rt; files.finish(below.as_str()), Err(Failed));
-    assert_eq!(rt; (files.read_faults, files.write_faults), (3, 4));
-    assert_eq!(rt; folder.len()?, 0);
-    folder.remove()?;
     Ok(())
 }

@@ -122,7 +122,7 @@ static CASES: [Case; 10] = [
     },
 ];
 
-// `None`, where the call's condition doesn't hold.
+/// `None`, where the call's condition doesn't hold.
 fn answer(files: &mut MemoryFiles, call: Call) -> Option<Result<u64, Failed>> {
     match call {
         Call::Size(name) => Some(files.size(name)),
