@@ -1,0 +1,25 @@
+use Rattle.std.proofs.Common.{◌≡◌, ◌∙◌, ◌++◌, refl, arith, length, take, drop, vec_len}
+use Rattle.apetool.proofs.ReadLemmas.{size_fails, size_refused, range_of, whole_read}
+use Rattle.apetool.proofs.transfer.fetch.Goals as goal
+
+pub returns-in-Err : goal.returns-in-Err
+returns-in-Err g c =
+    size_fails (g.F.Files.state c.args.files.now) (g.F.Files.state c.size.new.self) c.args.name.now c.in-Err.field-0 c.in-Err.ensures
+
+pub returns-in-Err-check_size : goal.returns-in-Err-check_size
+returns-in-Err-check_size g c =
+    size_refused (g.F.Files.state c.args.files.now) (g.F.Files.state c.size.new.self) c.args.name.now c.in-Ok.size c.in-Err-check_size.fault c.in-Ok.ensures c.in-Err-check_size.ensures.rules
+
+pub read_at-requires : goal.read_at-requires
+read_at-requires g c =
+    let size : vec_len c.resize.new.self ≡ c.in-Ok.size = grind arith in
+    range_of (g.F.Files.state c.args.files.now) (g.F.Files.state c.size.new.self) c.args.name.now c.in-Ok.size (length c.deref_mut.result.now) c.in-Ok.ensures (c.deref_mut.ensures.len ∙ size)
+
+pub returns-in-Ok-read_at : goal.returns-in-Ok-read_at
+returns-in-Ok-read_at g c =
+    let size : vec_len c.resize.new.self ≡ c.in-Ok.size = grind arith in
+    let count = vec_len c.resize.new.self in
+    let rest = drop (length c.read_at.new.buf) c.resize.new.self.items in
+    whole_read (g.F.Files.state c.args.files.now) (g.F.Files.state c.size.new.self) (g.F.Files.state c.read_at.new.self) c.args.name.now
+    (take count (c.read_at.new.buf ++ rest)) rest c.in-Ok.size count c.deref_mut.result.now c.read_at.new.buf
+    c.in-Ok.ensures c.in-Ok-read_at.ensures c.deref_mut.ensures.len size refl (c.read_at.auto.buf ∙ c.deref_mut.ensures.len)
