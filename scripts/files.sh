@@ -20,7 +20,7 @@ is_linked() { # FILE
 }
 
 holds() { # FILE TEXT
-    [ "$(cat "$1")" = "$2" ]
+    printf %s "$2" | cmp -s - "$1"
 }
 
 mode_of() { # FILE
