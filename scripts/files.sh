@@ -94,13 +94,26 @@ check 'a folder as the input ends with 3' ends_and_keeps 3 link new folder
 check 'a folder as the output ends with 4' ends_and_keeps 4 link folder in
 check 'an output in a missing folder ends with 4' ends_and_keeps 4 link nowhere/new in
 check 'an output below a file ends with 4' ends_and_keeps 4 link out/new in
-if [ "$(id -u)" = 0 ]; then
-    skip 'an input that may not be read, a folder that may not be written' 'root may do both'
+
+# Root may do all, so it gives the program to nobody.
+begin permitted
+other=()
+[ "$(id -u)" != 0 ] || other=(setpriv --reuid=65534 --regid=65534 --clear-groups --)
+cp "$apetool" "$work/apetool" && chmod 711 "$work"
+link_as_other() { # OUT IN
+    "${other[@]}" "$work/apetool" link --systems linux -o "$1" "$2"
+}
+if "${other[@]}" test -x "$work/apetool" 2>"$work/errors"; then
+    mkdir open closed
+    chmod 777 open
+    chmod 555 closed
+    check 'an input that may be read is linked' ends 0 link_as_other open/out in
+    chmod 000 in
+    check 'an input that may not be read ends with 3' ends 3 link_as_other open/new in
+    check 'a folder that may not be written ends with 4' ends 4 link_as_other closed/new "$work/program"
+    check 'nothing is left in either' [ "$(find open closed -type f)" = open/out ]
 else
-    chmod 000 empty
-    check 'an input that may not be read ends with 3' ends 3 link out empty
-    chmod 555 folder
-    check 'a folder that may not be written ends with 4' ends 4 link folder/new in
+    skip 'what may not be read or written' 'root may do all here'
 fi
 
 # A limit on the size of files is met in mid-write, as a full disk would be.
