@@ -1,0 +1,155 @@
+#!/usr/bin/env bash
+# Tries what the program does with the machine's files: the outputs, and the inputs that are outputs by another name.
+# Usage: scripts/files.sh [APETOOL]
+. "$(dirname "$0")/lib.sh"
+
+ends() { # STATUS COMMAND..
+    "${@:2}" >"$work/printed" 2>"$work/errors"
+    [ $? = "$1" ]
+}
+
+# Whether a command ends with this status, and leaves in its folder the files that were there, with their bytes.
+ends_and_keeps() { # STATUS COMMAND..
+    rm -rf "$work/before"
+    cp -a . "$work/before"
+    ends "$@" && diff -r "$work/before" . >"$work/differences"
+}
+
+is_linked() { # FILE
+    [ -f "$1" ] && cmp -s "$1" "$work/linked"
+}
+
+holds() { # FILE TEXT
+    printf %s "$2" | cmp -s - "$1"
+}
+
+mode_of() { # FILE
+    stat -c %a "$1"
+}
+
+count_of() { # the files of this folder
+    find . -mindepth 1 | wc -l
+}
+
+# A new folder with the input.
+begin() { # NAME
+    mkdir "$work/$1"
+    cd "$work/$1" || exit 2
+    cp "$work/program" in
+}
+
+elf_headers 5000 >"$work/program"
+head -c 5000 /dev/zero | tr '\0' x >>"$work/program"
+cd "$work" || exit 2
+check 'an input is linked' link linked program
+check 'the linked file is the block and the area' [ "$(stat -c %s linked)" = $((16384 + 8192)) ]
+check 'its area holds the load' cmp -s -n 5000 <(tail -c +$((16384 + 121)) linked) <(tail -c +121 program)
+
+begin modes
+printf 'old' >out
+chmod 600 out
+ln out other
+(umask 077 && link out in)
+check 'an old file is replaced by the linked one' is_linked out
+check 'the linked file may be run by all, whatever the umask' [ "$(mode_of out)" = 755 ]
+check 'the old file keeps its other links' holds other old
+check 'nothing else is left' [ "$(count_of)" = 3 ]
+
+begin neighbours
+printf 'mine' >out.0
+check 'a file whose name is that of the unfinished one is kept' ends 0 link out in
+check 'it holds what it held' holds out.0 mine
+check 'the linked file stands beside it' is_linked out
+
+begin spelled
+check 'the input may be the output by another spelling' ends 0 link ./in in
+check 'then it is the linked file' is_linked in
+begin hard
+ln in out
+check 'the input may be the output by a hard link' ends 0 link out in
+check 'the output is the linked file' is_linked out
+check 'the input is as it was' cmp -s in "$work/program"
+begin symbolic
+ln -s in out
+check 'the input may be the output by a symbolic link' ends 0 link out in
+check 'then it is the linked file' is_linked in
+check 'the link stays' [ "$(readlink out)" = in ]
+begin dangling
+ln -s file out
+check 'the output may be a symbolic link to nothing' ends 0 link out in
+check 'what it names is the linked file' is_linked file
+begin named
+check 'the input as the output by the same name is a fault of usage' ends_and_keeps 2 link in in
+printf 'old' >out
+check 'so is a word that is no text' ends_and_keeps 2 link $'out\377' in
+
+begin refused
+printf 'old' >out
+: >empty
+check 'a rule that is broken ends with 1 and keeps the old file' ends_and_keeps 1 link out empty
+check 'a missing input ends with 3 and keeps the old file' ends_and_keeps 3 link out missing
+check 'a missing input starts nothing' ends_and_keeps 3 link new missing
+mkdir folder
+check 'a folder as the input ends with 3' ends_and_keeps 3 link new folder
+check 'a folder as the output ends with 4' ends_and_keeps 4 link folder in
+check 'an output in a missing folder ends with 4' ends_and_keeps 4 link nowhere/new in
+check 'an output below a file ends with 4' ends_and_keeps 4 link out/new in
+
+# Root may do all, so it gives the program to nobody.
+begin permitted
+other=()
+[ "$(id -u)" != 0 ] || other=(setpriv --reuid=65534 --regid=65534 --clear-groups --)
+cp "$apetool" "$work/apetool" && chmod 711 "$work"
+link_as_other() { # OUT IN
+    "${other[@]}" "$work/apetool" link --systems linux -o "$1" "$2"
+}
+if "${other[@]}" test -x "$work/apetool" 2>"$work/errors"; then
+    mkdir open closed
+    chmod 777 open
+    chmod 555 closed
+    check 'an input that may be read is linked' ends 0 link_as_other open/out in
+    chmod 000 in
+    check 'an input that may not be read ends with 3' ends 3 link_as_other open/new in
+    check 'a folder that may not be written ends with 4' ends 4 link_as_other closed/new "$work/program"
+    check 'nothing is left in either' [ "$(find open closed -type f)" = open/out ]
+else
+    skip 'what may not be read or written' 'root may do all here'
+fi
+
+# A limit on the size of files is met in mid-write, as a full disk would be.
+begin limited
+printf 'old' >out
+limited() {
+    (trap '' XFSZ && ulimit -f 8 && link "$1" in)
+}
+check 'a write that fails ends with 4 and keeps the old file' ends_and_keeps 4 limited out
+check 'a write that fails leaves no new file' ends_and_keeps 4 limited new
+
+begin devices
+check 'a device takes the linked file' ends 0 link /dev/null in
+check 'it stays a device' [ -c /dev/null ]
+if [ -c /dev/full ]; then
+    check 'a full device ends with 4' ends_and_keeps 4 link /dev/full in
+    check 'it stays a device as well' [ -c /dev/full ]
+else
+    skip 'a full device' 'there is no /dev/full'
+fi
+mkfifo pipe
+timeout 60 cat pipe >piped &
+check 'a pipe takes the linked file' ends 0 link pipe in
+wait "$!"
+check 'it is what comes out of the pipe' is_linked piped
+check 'it stays a pipe' [ -p pipe ]
+
+begin opened
+if is_there strace && strace -o /dev/null true 2>"$work/errors"; then
+    opens() { # NAME
+        grep -cE "^open.*\"([^\"]*/)?$1\"" trace
+    }
+    strace -e trace=open,openat,openat2 -o trace "$apetool" link --systems linux -o out in
+    check 'the input is opened once' [ "$(opens in)" = 1 ]
+    check 'the new file is opened once' [ "$(opens 'out\.[0-9]+')" = 1 ]
+else
+    skip 'how often a file is opened' 'strace is missing, or may not trace here'
+fi
+cd / && finish
