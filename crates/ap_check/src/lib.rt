@@ -4,6 +4,7 @@
 mod check;
 mod entries;
 mod fault;
+mod file;
 mod header;
 mod input;
 mod loads;
@@ -13,6 +14,7 @@ mod table;
 
 pub use check::check_input;
 pub use fault::Fault;
+pub use file::{CheckEnd, check_input_in};
 pub use input::Input;
 pub use size::check_size;
 

@@ -3,10 +3,12 @@
 #![tactic(auto)]
 
 mod fault;
+mod file;
 mod read;
 mod types;
 
 pub use fault::{ElfCause, ElfFault};
+pub use file::{entries_in, header_in};
 pub use read::{entries, entry, header};
 pub use types::{Entry, Header};
 

@@ -7,3 +7,8 @@ pub mod Spelled
 pub mod Loaded
 pub mod Images
 pub mod Inputs
+pub mod Growing
+pub mod Copying
+pub mod Putting
+pub mod MakingFiles
+pub mod Delivering

@@ -6,3 +6,4 @@ pub mod Linkable
 pub mod Linked
 pub mod Same
 pub mod Answers
+pub mod Transfers

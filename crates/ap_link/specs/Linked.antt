@@ -42,6 +42,17 @@ area_of byte p =
     else zeros (p.vaddr % 4096) ++ (listed byte p.offset p.filesz
     ++ zeros (ceil_of (p.vaddr % 4096 + p.filesz) 4096 - (p.vaddr % 4096 + p.filesz)))
 
+-- how many zeros an area has before the load's bytes, and how many behind them
+abbrev pub zeros_before : Entry → ℕ
+zeros_before p = if p.filesz == 0 then 0 else p.vaddr % 4096
+
+abbrev pub zeros_behind : Entry → ℕ
+zeros_behind p = if p.filesz == 0 then 0 else ceil_of (p.vaddr % 4096 + p.filesz) 4096 - (p.vaddr % 4096 + p.filesz)
+
+-- where the bytes of a load start in the input, or 0 where it has none
+abbrev pub part_start : Entry → ℕ
+part_start p = if p.filesz == 0 then 0 else p.offset
+
 -- the linked file of a program that starts at `entry`, by its bytes and its load
 unfoldable pub linked_by : (ℕ → ℕ) → ℕ → Entry → List ℕ
 linked_by byte entry p = block_of entry p ++ area_of byte p

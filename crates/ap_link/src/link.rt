@@ -32,12 +32,12 @@ pub fn link_one(alloc: Global, input: &[u8]) -> Result<Vec<u8>, LinkFault>
 
 // Where a program starts, and what it loads.
 #[derive(Clone, Copy)]
-struct Program {
-    entry: u64,
-    load: Entry,
+pub struct Program {
+    pub entry: u64,
+    pub load: Entry,
 }
 
-fn only_load(taken: &Input) -> Program
+pub fn only_load(taken: &Input) -> Program
     ensures entry { result.entry ≡ taken.now.entry }
     ensures load { taken.now.loads ≡ result.load ∷ [] }
     ensures part { 0 < result.load.filesz → result.load.offset + result.load.filesz ≤ taken.now.size }
