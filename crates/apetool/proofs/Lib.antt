@@ -1,3 +1,1 @@
-pub mod ReadLemmas
-pub mod WriteLemmas
 pub mod Complete

@@ -1,12 +1,11 @@
 -- How a run ends.
-use Rattle.std.specs.Prelude.{◌≡◌, ℕ, ◌^◌, ◌-◌, ◌<◌, ◌⊎◌, take, Some, None, Option}
-use Rattle.ap_files.specs.Files.{FileMap, FileState, Rose, KeepsCounts, ForFile, with_file}
+use Rattle.std.specs.Prelude.{◌≡◌, ℕ, ◌^◌, ◌-◌, ◌<◌, ◌⊎◌, Ok, Err, Some, None, Option}
+use Rattle.ap_files.specs.Files.{FileState, ForFile}
 use Rattle.ap_check.specs.declared.fault.Fault.{Fault}
 use Rattle.ap_check.specs.Rules.{first_fault_of}
-use Rattle.ap_link.specs.Linked.{linked_of}
-use Rattle.ap_link.specs.Answers.{IsLinked}
+use Rattle.ap_link.specs.declared.stream.LinkEnd.TheVariants as end
+use Rattle.ap_link.specs.Answers.{LinksFile}
 use Rattle.apetool.specs.Words.{LinkNames}
-use Rattle.apetool.specs.Transfers.{HasFile, ReadFails}
 use Rattle.apetool.specs.declared.end.Cause.{Cause}
 use Rattle.apetool.specs.declared.end.Cause.TheVariants.{Done, Refused, Usage, ReadFault, WriteFault, NoMemory}
 
@@ -18,29 +17,14 @@ status_of ReadFault = 3
 status_of WriteFault = 4
 status_of NoMemory = 5
 
--- The input met all rules, no call failed, and the file holds the linked file.
-pub record LinkDone (old new : FileState) (names : LinkNames) : Type 0 where
-  pub counts : KeepsCounts old new
-  pub unfinished : (m : FileMap) → old.kept ≡ Some m → new.unfinished ≡ None
-  pub linked : HasFile old.kept names.input (λ input.
-      (first_fault_of 1 input ≡ None) × (new.kept ≡ with_file old.kept names.out (linked_of input)) × IsLinked input (linked_of input))
-
--- The input met all rules, and a write failed: the files are as before, or the file has a front of the linked file.
-pub record LinkBroken (old new : FileState) (names : LinkNames) : Type 0 where
-  pub rose : Rose old.write_faults new.write_faults
-  pub read_faults : new.read_faults ≡ old.read_faults
-  pub absences : new.absences ≡ old.absences
-  pub front : HasFile old.kept names.input (λ input.
-      (first_fault_of 1 input ≡ None) × ((new.kept ≡ old.kept) ⊎ ((n : ℕ) × (new.kept ≡ with_file old.kept names.out (take n (linked_of input))))))
-
 -- how a link ends, by its cause
 abbrev pub LinkEnds : FileState → FileState → LinkNames → Cause → Type 0
-LinkEnds old new names Done = LinkDone old new names
-LinkEnds old new names (Refused fault) = (new ≡ old) × HasFile old.kept names.input (λ input. first_fault_of 1 input ≡ Some fault)
+LinkEnds old new names Done = LinksFile old new names.input names.out (Ok tt)
+LinkEnds old new names (Refused fault) = LinksFile old new names.input names.out (Err (end.Rule fault))
 LinkEnds old new names Usage = ⊥
-LinkEnds old new names ReadFault = ReadFails old new names.input
-LinkEnds old new names WriteFault = LinkBroken old new names
-LinkEnds old new names NoMemory = new ≡ old
+LinkEnds old new names ReadFault = LinksFile old new names.input names.out (Err end.ReadFault)
+LinkEnds old new names WriteFault = LinksFile old new names.input names.out (Err end.WriteFault)
+LinkEnds old new names NoMemory = LinksFile old new names.input names.out (Err end.NoMemory)
 
 -- how a run ends, by the names in its words
 abbrev pub RunEnds : FileState → FileState → Option LinkNames → Cause → Type 0

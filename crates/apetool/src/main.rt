@@ -3,7 +3,6 @@
 
 mod end;
 mod run;
-mod transfer;
 mod words;
 
 use crate::run::run;

@@ -1,13 +1,12 @@
 // A run of the program.
-ghost use Rattle.std.specs.Prelude.{◌≡◌};
+ghost use Rattle.std.specs.Prelude.{◌≡◌, ◌≢◌};
 ghost use Rattle.apetool.specs.Words.{names_in, texts_of};
 ghost use Rattle.apetool.specs.Ends.{LinkEnds, RunEnds, IsComplete, status_of};
 
 use crate::end::{Cause, End};
-use crate::transfer::{Unfetched, fetch, store};
 use crate::words::read_words;
 use ap_files::{Files, Sink};
-use ap_link::{LinkFault, link_one};
+use ap_link::{LinkEnd, link_file};
 use std::alloc::Global;
 
 /// Does what the words say over these files, and answers how it ended. `words` doesn't have the program's name.
@@ -43,22 +42,15 @@ fn obey<F: Files>(alloc: Global, words: &[String], files: &mut F) -> Cause
 }
 
 fn link<F: Files>(alloc: Global, files: &mut F, out: &str, input: &str) -> Cause
+    requires { input.now ≢ out.now }
     ensures { LinkEnds (F.state files.old) (F.state files.new) (record { out = out.now; input = input.now }) result }
 {
-    let bytes = match fetch(alloc, files, input) {
-        Ok(bytes) => bytes,
-        Err(Unfetched::Rule(fault)) => return Cause::Refused(fault),
-        Err(Unfetched::Read) => return Cause::ReadFault,
-        Err(Unfetched::Memory) => return Cause::NoMemory,
-    };
-    let linked = match link_one(alloc, &bytes) {
-        Ok(linked) => linked,
-        Err(LinkFault::Rule(fault)) => return Cause::Refused(fault),
-        Err(LinkFault::NoMemory) => return Cause::NoMemory,
-    };
-    match store(files, out, &linked) {
+    match link_file(alloc, files, input, out) {
         Ok(()) => Cause::Done,
-        Err(_) => Cause::WriteFault,
+        Err(LinkEnd::Rule(fault)) => Cause::Refused(fault),
+        Err(LinkEnd::ReadFault) => Cause::ReadFault,
+        Err(LinkEnd::WriteFault) => Cause::WriteFault,
+        Err(LinkEnd::NoMemory) => Cause::NoMemory,
     }
 }
 

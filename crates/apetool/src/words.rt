@@ -1,5 +1,5 @@
 // The words of a command line.
-ghost use Rattle.std.specs.Prelude.{◌≡◌};
+ghost use Rattle.std.specs.Prelude.{◌≡◌, ◌≢◌, IfSome};
 ghost use Rattle.std.specs.Option.{option_map};
 ghost use Rattle.apetool.specs.Words.{names_in, texts_of};
 
@@ -14,7 +14,8 @@ pub struct Link<'a> {
 
 /// The names in `link --systems linux -o OUT IN`, where OUT isn't IN; any other words are none.
 pub fn read_words(words: &[String]) -> Option<Link<'_>>
-    ensures { option_map (λ l. record { out = l.out.now; input = l.input.now }) result ≡ names_in (texts_of words.now) }
+    ensures apart { IfSome result (λ l. l.input.now ≢ l.out.now) }
+    ensures names { option_map (λ l. record { out = l.out.now; input = l.input.now }) result ≡ names_in (texts_of words.now) }
 {
     let [command, systems, linux, to, out, input] = words else {
         return None;
