@@ -1,0 +1,213 @@
+// The command over files in memory.
+mod example;
+mod failures;
+mod sized;
+
+use crate::end::{Cause, End};
+use crate::run::run;
+use ap_check::Fault;
+use ap_files::{Files, MemoryFiles, NoMemory, SteadyFiles, SteadySink};
+use example::{Edit, edited, plain, plain_linked};
+use std::alloc::{AllocError, Global};
+use std::process::Abort;
+use std::test::Fail;
+
+/// A program that is linked, and what stands in its linked file.
+struct Placed {
+    edits: &'static [Edit],
+    /// The two bytes of the load's offset, at 104.
+    offset: &'static [u8],
+    /// The zeros from 16384 on, and what is behind them.
+    zeros: usize,
+    load: &'static [u8],
+    length: usize,
+}
+
+static PLACED: [Placed; 2] = [
+    // the entry and the load are not at a granule's start
+    Placed {
+        edits: &[(24, b"\x34\x12"), (80, b"\x34\x12")],
+        offset: b"\x34\x42",
+        zeros: 564,
+        load: b"0123456789abcdef\0",
+        length: 20480,
+    },
+    // the load has no bytes in the file
+    Placed {
+        edits: &[(96, b"\0")],
+        offset: b"\0\0",
+        zeros: 0,
+        load: b"",
+        length: 16384,
+    },
+];
+
+/// The rule, the item and the value of a fault.
+type Broken = (u8, u16, u64);
+
+/// The edits and the length of an input that is refused.
+static REFUSED: [(&[Edit], usize, Broken); 7] = [
+    (&[], 63, (2, 0, 63)),
+    (&[(56, b"\0")], 64, (10, 0, 0)),
+    (&[], 0, (2, 0, 0)),
+    (&[(18, b"\xb7")], 144, (0, 1, 183)),
+    (&[(56, b"\x02")], 200, (0, 2, 2)),
+    (&[(40, b"\x40"), (60, b"\x03")], 144, (0, 3, 3)),
+    (&[(68, b"\x07")], 144, (17, 1, 7)),
+];
+
+/// The words of a link.
+const LINK: &[&str] = &["link", "--systems", "linux", "-o", "out", "in"];
+
+/// Words that are no command.
+static OTHER_WORDS: [&[&str]; 8] = [
+    &[],
+    &["link"],
+    &["link", "in"],
+    &["link", "--systems", "linux", "-o", "in", "in"],
+    &["link", "--systems", "linux,beos", "-o", "out", "in"],
+    &["load", "--systems", "linux", "-o", "out", "in"],
+    &["link", "-o", "out", "--systems", "linux", "in"],
+    &["link", "--systems", "linux", "-o", "out", "in", "in"],
+];
+
+#[test]
+fn each_byte_of_a_plain_program_is_linked(rt: HostRuntime) -> Result<(), Fail> {
+    let mut files = files_of(rt.alloc(), plain(), &[])?;
+    assert_ends(&rt, rt.alloc(), &mut files, 0, Cause::Done);
+    let expected = plain_linked(rt.alloc())?;
+    assert!(rt; expected.len() == 20480);
+    assert!(rt; files.bytes("out") == Some(expected.as_slice()));
+    assert!(rt; files.bytes("in") == Some(plain()));
+    Ok(())
+}
+
+#[test]
+fn files_that_tell_nothing_are_linked(rt: HostRuntime) {
+    assert_ends(
+        &rt,
+        rt.alloc(),
+        &mut SteadyFiles::of("in", plain()),
+        0,
+        Cause::Done,
+    );
+}
+
+#[test]
+fn bytes_stand_where_the_program_header_says(rt: HostRuntime) -> Result<(), Fail> {
+    for placed in &PLACED {
+        let input = edited(rt.alloc(), placed.edits, 144)?;
+        let mut files = files_of(rt.alloc(), &input, &[])?;
+        assert_ends(&rt, rt.alloc(), &mut files, 0, Cause::Done);
+        assert_placed(&rt, files.bytes("out").unwrap_or(b""), placed);
+    }
+    Ok(())
+}
+
+#[test]
+fn a_large_load_is_linked_piece_by_piece(rt: HostRuntime) -> Result<(), Fail> {
+    let input = large(rt.alloc())?;
+    let mut files = files_of(rt.alloc(), &input, &[])?;
+    files.slow(4000);
+    assert_ends(&rt, rt.alloc(), &mut files, 0, Cause::Done);
+    let out = files.bytes("out").unwrap_or(b"");
+    assert!(rt; out.len() == 16384 + 13 * 4096);
+    assert!(rt; out.get(16384..66400) == input.get(128..));
+    assert!(rt; zeros_at(out, 66400) == 3232);
+    Ok(())
+}
+
+#[test]
+fn the_first_broken_rule_is_answered_and_nothing_started(rt: HostRuntime) -> Result<(), Fail> {
+    for (edits, length, broken) in &REFUSED {
+        let input = edited(rt.alloc(), edits, *length)?;
+        let mut files = files_of(rt.alloc(), &input, &[])?;
+        assert_ends(&rt, rt.alloc(), &mut files, 1, refused(*broken));
+        assert!(rt; files.bytes("out").is_none());
+    }
+    Ok(())
+}
+
+#[test]
+fn a_missing_input_is_a_failed_read(rt: HostRuntime) -> Result<(), Fail> {
+    let mut files = MemoryFiles::new(rt.alloc(), &[])?;
+    files.reserve("out", 70_000)?;
+    assert_ends(&rt, rt.alloc(), &mut files, 3, Cause::ReadFault);
+    assert!(rt; files.bytes("out").is_none());
+    Ok(())
+}
+
+#[test]
+fn other_words_are_a_usage(rt: HostRuntime) -> Result<(), Fail> {
+    for words in &OTHER_WORDS {
+        let mut files = files_of(rt.alloc(), plain(), &[1])?;
+        let end = obey(rt.alloc(), &mut files, words)?;
+        assert!(rt; end.status == 2 && end.cause == Cause::Usage, "{words:?}");
+        assert!(rt; files.bytes("out").is_none(), "{words:?}");
+    }
+    Ok(())
+}
+
+/// An input, and room for an output. The calls of the list fail.
+fn files_of(alloc: Global, input: &[u8], fails: &[u64]) -> Result<MemoryFiles, NoMemory> {
+    let mut files = MemoryFiles::new(alloc, fails)?;
+    files.put("in", input)?;
+    files.reserve("out", 70_000)?;
+    Ok(files)
+}
+
+fn obey<F: Files>(alloc: Global, files: &mut F, list: &[&str]) -> Result<End, AllocError> {
+    let words = words_of(alloc, list)?;
+    let (mut out, mut err) = (SteadySink::new(), SteadySink::new());
+    Ok(run(alloc, &words, files, &mut out, &mut err))
+}
+
+fn words_of(alloc: Global, list: &[&str]) -> Result<Vec<String>, AllocError> {
+    let mut words = Vec::new(alloc);
+    for word in list {
+        words.push(String::from_str(alloc, word)?)?;
+    }
+    Ok(words)
+}
+
+fn link<F: Files>(alloc: Global, files: &mut F) -> Result<End, AllocError> {
+    obey(alloc, files, LINK)
+}
+
+/// A link ends so.
+fn assert_ends<F: Files>(rt: &impl Abort, alloc: Global, files: &mut F, status: u8, cause: Cause) {
+    let end = link(alloc, files).ok();
+    assert_eq!(rt; end, Some(End { status, cause }));
+}
+
+fn refused((rule, item, value): Broken) -> Cause {
+    Cause::Refused(Fault {
+        rule,
+        input: 1,
+        item,
+        value,
+    })
+}
+
+fn assert_placed(rt: &impl Abort, out: &[u8], placed: &Placed) {
+    assert_eq!(rt; out.len(), placed.length);
+    assert!(rt; out.get(104..106) == Some(placed.offset));
+    assert_eq!(rt; zeros_at(out, 16384), placed.zeros);
+    let load = out.iter().skip(16384).skip(placed.zeros);
+    let found = load.zip(placed.load).filter(|(a, b)| a == b).count();
+    assert_eq!(rt; found, placed.load.len());
+}
+
+/// How many zeros stand in a row from a place on.
+fn zeros_at(bytes: &[u8], at: usize) -> usize {
+    bytes.iter().skip(at).take_while(|byte| **byte == 0).count()
+}
+
+/// The program with a load of 50 016 bytes.
+fn large(alloc: Global) -> Result<Vec<u8>, AllocError> {
+    let mut input = edited(alloc, &[(96, b"\x60\xc3"), (104, b"\x60\xc3")], 144)?;
+    for number in 0..50_000u64 {
+        input.push((number % 251) as u8)?;
+    }
+    Ok(input)
+}
