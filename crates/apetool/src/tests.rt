@@ -6,11 +6,10 @@ mod sized;
 use crate::end::{Cause, End};
 use crate::run::run;
 use ap_check::Fault;
-use ap_files::{Files, MemoryFiles, NoMemory, SteadyFiles, SteadySink};
+use ap_files::{Files, MemoryFiles, SteadyFiles, SteadySink};
 use example::{Edit, edited, plain, plain_linked};
-use std::alloc::{AllocError, Global};
+use std::alloc::Global;
 use std::process::Abort;
-use std::test::Fail;
 
 /// A program that is linked, and what stands in its linked file.
 struct Placed {
@@ -72,112 +71,95 @@ static OTHER_WORDS: [&[&str]; 8] = [
 ];
 
 #[test]
-fn each_byte_of_a_plain_program_is_linked(rt: HostRuntime) -> Result<(), Fail> {
-    let mut files = files_of(rt.alloc(), plain(), &[])?;
+fn each_byte_of_a_plain_program_is_linked(rt: HostRuntime) {
+    let mut files = files_of(&rt, rt.alloc(), plain(), &[]);
     assert_ends(&rt, rt.alloc(), &mut files, 0, Cause::Done);
-    let expected = plain_linked(rt.alloc())?;
+    let expected = plain_linked(&rt, rt.alloc());
     assert!(rt; expected.len() == 20480);
     assert!(rt; files.bytes("out") == Some(expected.as_slice()));
     assert!(rt; files.bytes("in") == Some(plain()));
-    Ok(())
 }
 
 #[test]
 fn files_that_tell_nothing_are_linked(rt: HostRuntime) {
-    assert_ends(
-        &rt,
-        rt.alloc(),
-        &mut SteadyFiles::of("in", plain()),
-        0,
-        Cause::Done,
-    );
+    let mut files = SteadyFiles::of("in", plain());
+    assert_ends(&rt, rt.alloc(), &mut files, 0, Cause::Done);
 }
 
 #[test]
-fn bytes_stand_where_the_program_header_says(rt: HostRuntime) -> Result<(), Fail> {
+fn bytes_stand_where_the_program_header_says(rt: HostRuntime) {
     for placed in &PLACED {
-        let input = edited(rt.alloc(), placed.edits, 144)?;
-        let mut files = files_of(rt.alloc(), &input, &[])?;
+        let input = edited(&rt, rt.alloc(), placed.edits, 144);
+        let mut files = files_of(&rt, rt.alloc(), &input, &[]);
         assert_ends(&rt, rt.alloc(), &mut files, 0, Cause::Done);
         assert_placed(&rt, files.bytes("out").unwrap_or(b""), placed);
     }
-    Ok(())
 }
 
 #[test]
-fn a_large_load_is_linked_piece_by_piece(rt: HostRuntime) -> Result<(), Fail> {
-    let input = large(rt.alloc())?;
-    let mut files = files_of(rt.alloc(), &input, &[])?;
+fn a_large_load_is_linked_piece_by_piece(rt: HostRuntime) {
+    let input = large(&rt, rt.alloc());
+    let mut files = files_of(&rt, rt.alloc(), &input, &[]);
     files.slow(4000);
     assert_ends(&rt, rt.alloc(), &mut files, 0, Cause::Done);
-    let out = files.bytes("out").unwrap_or(b"");
-    assert!(rt; out.len() == 16384 + 13 * 4096);
-    assert!(rt; out.get(16384..66400) == input.get(128..));
-    assert!(rt; zeros_at(out, 66400) == 3232);
-    Ok(())
+    assert_large(&rt, files.bytes("out").unwrap_or(b""), &input);
 }
 
 #[test]
-fn the_first_broken_rule_is_answered_and_nothing_started(rt: HostRuntime) -> Result<(), Fail> {
+fn the_first_broken_rule_is_answered_and_nothing_started(rt: HostRuntime) {
     for (edits, length, broken) in &REFUSED {
-        let input = edited(rt.alloc(), edits, *length)?;
-        let mut files = files_of(rt.alloc(), &input, &[])?;
+        let input = edited(&rt, rt.alloc(), edits, *length);
+        let mut files = files_of(&rt, rt.alloc(), &input, &[]);
         assert_ends(&rt, rt.alloc(), &mut files, 1, refused(*broken));
         assert!(rt; files.bytes("out").is_none());
     }
-    Ok(())
 }
 
 #[test]
-fn a_missing_input_is_a_failed_read(rt: HostRuntime) -> Result<(), Fail> {
-    let mut files = MemoryFiles::new(rt.alloc(), &[])?;
-    files.reserve("out", 70_000)?;
+fn a_missing_input_is_a_failed_read(rt: HostRuntime) {
+    let mut files = MemoryFiles::new(rt.alloc(), &[]).expect(&rt, "memory");
+    files.reserve("out", 70_000).expect(&rt, "memory");
     assert_ends(&rt, rt.alloc(), &mut files, 3, Cause::ReadFault);
     assert!(rt; files.bytes("out").is_none());
-    Ok(())
 }
 
 #[test]
-fn other_words_are_a_usage(rt: HostRuntime) -> Result<(), Fail> {
+fn other_words_are_a_usage(rt: HostRuntime) {
     for words in &OTHER_WORDS {
-        let mut files = files_of(rt.alloc(), plain(), &[1])?;
-        let end = obey(rt.alloc(), &mut files, words)?;
+        let mut files = files_of(&rt, rt.alloc(), plain(), &[1]);
+        let end = obey(&rt, rt.alloc(), &mut files, words);
         assert!(rt; end.status == 2 && end.cause == Cause::Usage, "{words:?}");
         assert!(rt; files.bytes("out").is_none(), "{words:?}");
     }
-    Ok(())
 }
 
 /// An input, and room for an output. The calls of the list fail.
-fn files_of(alloc: Global, input: &[u8], fails: &[u64]) -> Result<MemoryFiles, NoMemory> {
-    let mut files = MemoryFiles::new(alloc, fails)?;
-    files.put("in", input)?;
-    files.reserve("out", 70_000)?;
-    Ok(files)
+fn files_of(rt: &impl Abort, alloc: Global, input: &[u8], fails: &[u64]) -> MemoryFiles {
+    let mut files = MemoryFiles::new(alloc, fails).expect(rt, "memory");
+    files.put("in", input).expect(rt, "memory");
+    files.reserve("out", 70_000).expect(rt, "memory");
+    files
 }
 
-fn obey<F: Files>(alloc: Global, files: &mut F, list: &[&str]) -> Result<End, AllocError> {
-    let words = words_of(alloc, list)?;
+fn obey<F: Files>(rt: &impl Abort, alloc: Global, files: &mut F, list: &[&str]) -> End {
+    let words = words_of(rt, alloc, list);
     let (mut out, mut err) = (SteadySink::new(), SteadySink::new());
-    Ok(run(alloc, &words, files, &mut out, &mut err))
+    run(alloc, &words, files, &mut out, &mut err)
 }
 
-fn words_of(alloc: Global, list: &[&str]) -> Result<Vec<String>, AllocError> {
+fn words_of(rt: &impl Abort, alloc: Global, list: &[&str]) -> Vec<String> {
     let mut words = Vec::new(alloc);
     for word in list {
-        words.push(String::from_str(alloc, word)?)?;
+        let word = String::from_str(alloc, word).expect(rt, "memory");
+        words.push(word).expect(rt, "memory");
     }
-    Ok(words)
-}
-
-fn link<F: Files>(alloc: Global, files: &mut F) -> Result<End, AllocError> {
-    obey(alloc, files, LINK)
+    words
 }
 
 /// A link ends so.
 fn assert_ends<F: Files>(rt: &impl Abort, alloc: Global, files: &mut F, status: u8, cause: Cause) {
-    let end = link(alloc, files).ok();
-    assert_eq!(rt; end, Some(End { status, cause }));
+    let end = obey(rt, alloc, files, LINK);
+    assert_eq!(rt; end, End { status, cause });
 }
 
 fn refused((rule, item, value): Broken) -> Cause {
@@ -190,24 +172,35 @@ fn refused((rule, item, value): Broken) -> Cause {
 }
 
 fn assert_placed(rt: &impl Abort, out: &[u8], placed: &Placed) {
-    assert_eq!(rt; out.len(), placed.length);
+    assert!(rt; out.len() == placed.length);
     assert!(rt; out.get(104..106) == Some(placed.offset));
-    assert_eq!(rt; zeros_at(out, 16384), placed.zeros);
-    let load = out.iter().skip(16384).skip(placed.zeros);
-    let found = load.zip(placed.load).filter(|(a, b)| a == b).count();
-    assert_eq!(rt; found, placed.load.len());
+    assert!(rt; zeros_at(out, 16384) == placed.zeros);
+    let load = part_at(out, 16384).get(placed.zeros..).unwrap_or(b"");
+    assert!(rt; load.starts_with(placed.load));
+}
+
+/// The load's bytes stand in 13 pages, with zeros behind them.
+fn assert_large(rt: &impl Abort, out: &[u8], input: &[u8]) {
+    assert!(rt; out.len() == 16384 + 13 * 4096);
+    assert!(rt; out.get(16384..66400) == input.get(128..));
+    assert!(rt; zeros_at(out, 66400) == 3232);
 }
 
 /// How many zeros stand in a row from a place on.
 fn zeros_at(bytes: &[u8], at: usize) -> usize {
-    bytes.iter().skip(at).take_while(|byte| **byte == 0).count()
+    let zeros = part_at(bytes, at).iter().take_while(|byte| **byte == 0);
+    zeros.count()
+}
+
+fn part_at(bytes: &[u8], at: usize) -> &[u8] {
+    bytes.get(at..).unwrap_or(b"")
 }
 
 /// The program with a load of 50 016 bytes.
-fn large(alloc: Global) -> Result<Vec<u8>, AllocError> {
-    let mut input = edited(alloc, &[(96, b"\x60\xc3"), (104, b"\x60\xc3")], 144)?;
+fn large(rt: &impl Abort, alloc: Global) -> Vec<u8> {
+    let mut input = edited(rt, alloc, &[(96, b"\x60\xc3"), (104, b"\x60\xc3")], 144);
     for number in 0..50_000u64 {
-        input.push((number % 251) as u8)?;
+        input.push((number % 251) as u8).expect(rt, "memory");
     }
-    Ok(input)
+    input
 }

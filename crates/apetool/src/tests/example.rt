@@ -1,5 +1,6 @@
 // The worked example of the file format: a program, and the file that it becomes.
-use std::alloc::{AllocError, Global};
+use std::alloc::Global;
+use std::process::Abort;
 
 /// A place in a file, and the bytes that it gets.
 pub type Edit = (usize, &'static [u8]);
@@ -61,32 +62,31 @@ fn script() -> &'static [u8] {
 }
 
 /// The program's linked file.
-pub fn plain_linked(alloc: Global) -> Result<Vec<u8>, AllocError> {
+pub fn plain_linked(rt: &impl Abort, alloc: Global) -> Vec<u8> {
     let mut file = Vec::new(alloc);
-    add(&mut file, opening(), 86, 0)?;
-    add(&mut file, body(), 152, 0)?;
-    add(&mut file, script(), 8192, b' ')?;
-    add(&mut file, b"", 16384, 0)?;
-    add(&mut file, b"0123456789abcdef", 20480, 0)?;
-    Ok(file)
+    add(rt, &mut file, opening(), 86, 0);
+    add(rt, &mut file, body(), 152, 0);
+    add(rt, &mut file, script(), 8192, b' ');
+    add(rt, &mut file, b"", 16384, 0);
+    add(rt, &mut file, b"0123456789abcdef", 20480, 0);
+    file
 }
 
 /// Appends a part, and fills the file up to a length.
-fn add(file: &mut Vec<u8>, part: &[u8], length: usize, filler: u8) -> Result<(), AllocError> {
-    file.extend_from_slice(part)?;
-    file.resize(length, filler)?;
-    Ok(())
+fn add(rt: &impl Abort, file: &mut Vec<u8>, part: &[u8], length: usize, filler: u8) {
+    file.extend_from_slice(part).expect(rt, "memory");
+    file.resize(length, filler).expect(rt, "memory");
 }
 
 /// The program with other bytes at some places, cut or filled with zeros to a length.
-pub fn edited(alloc: Global, edits: &[Edit], length: usize) -> Result<Vec<u8>, AllocError> {
+pub fn edited(rt: &impl Abort, alloc: Global, edits: &[Edit], length: usize) -> Vec<u8> {
     let mut file = Vec::new(alloc);
-    file.extend_from_slice(plain())?;
+    file.extend_from_slice(plain()).expect(rt, "memory");
     for (at, bytes) in edits {
         put(&mut file, *at, bytes);
     }
-    file.resize(length, 0)?;
-    Ok(file)
+    file.resize(length, 0).expect(rt, "memory");
+    file
 }
 
 fn put(file: &mut [u8], at: usize, bytes: &[u8]) {
