@@ -72,12 +72,11 @@ static OTHER_WORDS: [&[&str]; 8] = [
 
 #[test]
 fn each_byte_of_a_plain_program_is_linked(rt: HostRuntime) {
+    let expected = plain_linked(&rt, rt.alloc());
     let mut files = files_of(&rt, rt.alloc(), plain(), &[]);
     assert_ends(&rt, rt.alloc(), &mut files, 0, Cause::Done);
-    let expected = plain_linked(&rt, rt.alloc());
-    assert!(rt; expected.len() == 20480);
-    assert!(rt; files.bytes("out") == Some(expected.as_slice()));
-    assert!(rt; files.bytes("in") == Some(plain()));
+    assert!(rt; holds(&files, "out", &expected));
+    assert!(rt; holds(&files, "in", plain()));
 }
 
 #[test]
@@ -89,10 +88,7 @@ fn files_that_tell_nothing_are_linked(rt: HostRuntime) {
 #[test]
 fn bytes_stand_where_the_program_header_says(rt: HostRuntime) {
     for placed in &PLACED {
-        let input = edited(&rt, rt.alloc(), placed.edits, 144);
-        let mut files = files_of(&rt, rt.alloc(), &input, &[]);
-        assert_ends(&rt, rt.alloc(), &mut files, 0, Cause::Done);
-        assert_placed(&rt, files.bytes("out").unwrap_or(b""), placed);
+        assert_placed(&rt, rt.alloc(), placed);
     }
 }
 
@@ -102,16 +98,13 @@ fn a_large_load_is_linked_piece_by_piece(rt: HostRuntime) {
     let mut files = files_of(&rt, rt.alloc(), &input, &[]);
     files.slow(4000);
     assert_ends(&rt, rt.alloc(), &mut files, 0, Cause::Done);
-    assert_large(&rt, files.bytes("out").unwrap_or(b""), &input);
+    assert!(rt; is_large(output(&files), &input));
 }
 
 #[test]
 fn the_first_broken_rule_is_answered_and_nothing_started(rt: HostRuntime) {
     for (edits, length, broken) in &REFUSED {
-        let input = edited(&rt, rt.alloc(), edits, *length);
-        let mut files = files_of(&rt, rt.alloc(), &input, &[]);
-        assert_ends(&rt, rt.alloc(), &mut files, 1, refused(*broken));
-        assert!(rt; files.bytes("out").is_none());
+        assert_refused(&rt, rt.alloc(), edits, *length, *broken);
     }
 }
 
@@ -120,16 +113,13 @@ fn a_missing_input_is_a_failed_read(rt: HostRuntime) {
     let mut files = MemoryFiles::new(rt.alloc(), &[]).expect(&rt, "memory");
     files.reserve("out", 70_000).expect(&rt, "memory");
     assert_ends(&rt, rt.alloc(), &mut files, 3, Cause::ReadFault);
-    assert!(rt; files.bytes("out").is_none());
+    assert!(rt; !has_output(&files));
 }
 
 #[test]
 fn other_words_are_a_usage(rt: HostRuntime) {
     for words in &OTHER_WORDS {
-        let mut files = files_of(&rt, rt.alloc(), plain(), &[1]);
-        let end = obey(&rt, rt.alloc(), &mut files, words);
-        assert!(rt; end.status == 2 && end.cause == Cause::Usage, "{words:?}");
-        assert!(rt; files.bytes("out").is_none(), "{words:?}");
+        assert_usage(&rt, rt.alloc(), words);
     }
 }
 
@@ -159,7 +149,11 @@ fn words_of(rt: &impl Abort, alloc: Global, list: &[&str]) -> Vec<String> {
 /// A link ends so.
 fn assert_ends<F: Files>(rt: &impl Abort, alloc: Global, files: &mut F, status: u8, cause: Cause) {
     let end = obey(rt, alloc, files, LINK);
-    assert_eq!(rt; end, End { status, cause });
+    assert!(rt; is_end(end, status, cause), "{end:?}");
+}
+
+fn is_end(end: End, status: u8, cause: Cause) -> bool {
+    end == End { status, cause }
 }
 
 fn refused((rule, item, value): Broken) -> Cause {
@@ -171,19 +165,56 @@ fn refused((rule, item, value): Broken) -> Cause {
     })
 }
 
-fn assert_placed(rt: &impl Abort, out: &[u8], placed: &Placed) {
-    assert!(rt; out.len() == placed.length);
-    assert!(rt; out.get(104..106) == Some(placed.offset));
-    assert!(rt; zeros_at(out, 16384) == placed.zeros);
-    let load = part_at(out, 16384).get(placed.zeros..).unwrap_or(b"");
-    assert!(rt; load.starts_with(placed.load));
+/// The program with these edits is linked as the header says.
+fn assert_placed(rt: &impl Abort, alloc: Global, placed: &Placed) {
+    let input = edited(rt, alloc, placed.edits, 144);
+    let mut files = files_of(rt, alloc, &input, &[]);
+    assert_ends(rt, alloc, &mut files, 0, Cause::Done);
+    assert!(rt; is_placed(output(&files), placed));
+}
+
+/// The program with these edits is refused, and nothing is written.
+fn assert_refused(rt: &impl Abort, alloc: Global, edits: &[Edit], length: usize, broken: Broken) {
+    let input = edited(rt, alloc, edits, length);
+    let mut files = files_of(rt, alloc, &input, &[]);
+    assert_ends(rt, alloc, &mut files, 1, refused(broken));
+    assert!(rt; !has_output(&files));
+}
+
+/// Nothing is done by these words, although the first call fails.
+fn assert_usage(rt: &impl Abort, alloc: Global, words: &[&str]) {
+    let mut files = files_of(rt, alloc, plain(), &[1]);
+    let end = obey(rt, alloc, &mut files, words);
+    assert!(rt; is_end(end, 2, Cause::Usage), "{words:?}");
+    assert!(rt; !has_output(&files));
+}
+
+fn holds(files: &MemoryFiles, name: &str, bytes: &[u8]) -> bool {
+    files.bytes(name) == Some(bytes)
+}
+
+fn has_output(files: &MemoryFiles) -> bool {
+    files.bytes("out").is_some()
+}
+
+/// The bytes of the output, and none where it isn't there.
+fn output(files: &MemoryFiles) -> &[u8] {
+    files.bytes("out").unwrap_or(b"")
+}
+
+fn is_placed(out: &[u8], placed: &Placed) -> bool {
+    let load = part_at(part_at(out, 16384), placed.zeros);
+    out.len() == placed.length
+        && part_at(out, 104).starts_with(placed.offset)
+        && zeros_at(out, 16384) == placed.zeros
+        && load.starts_with(placed.load)
 }
 
 /// The load's bytes stand in 13 pages, with zeros behind them.
-fn assert_large(rt: &impl Abort, out: &[u8], input: &[u8]) {
-    assert!(rt; out.len() == 16384 + 13 * 4096);
-    assert!(rt; out.get(16384..66400) == input.get(128..));
-    assert!(rt; zeros_at(out, 66400) == 3232);
+fn is_large(out: &[u8], input: &[u8]) -> bool {
+    out.len() == 16384 + 13 * 4096
+        && part_at(out, 16384).starts_with(part_at(input, 128))
+        && zeros_at(out, 66400) == 3232
 }
 
 /// How many zeros stand in a row from a place on.

@@ -1,6 +1,6 @@
 // Links of which each call of the files fails in turn.
 use super::example::{plain, plain_linked};
-use super::{LINK, files_of, obey};
+use super::{LINK, files_of, holds, obey, output};
 use crate::end::{Cause, End};
 use ap_files::MemoryFiles;
 use std::alloc::Global;
@@ -47,9 +47,9 @@ fn run_failing(
     expected: &[u8],
 ) -> (u8, usize) {
     let end = obey(rt, alloc, &mut files, LINK);
-    assert!(rt; is_expected(end), "{end:?}");
-    let front = files.bytes("out").unwrap_or(b"");
-    assert!(rt; expected.starts_with(front), "{end:?}");
+    assert!(rt; is_expected(end));
+    let front = output(&files);
+    assert!(rt; expected.starts_with(front));
     (end.status, front.len())
 }
 
@@ -67,7 +67,7 @@ fn stays_older(rt: &impl Abort, alloc: Global, k: u64) -> bool {
     let mut files = failing(rt, alloc, k, false);
     files.put("out", b"older").expect(rt, "memory");
     let end = obey(rt, alloc, &mut files, LINK);
-    end.cause == Cause::WriteFault && files.bytes("out") == Some(b"older")
+    end.cause == Cause::WriteFault && holds(&files, "out", b"older")
 }
 
 /// Files of which the k-th call fails.
