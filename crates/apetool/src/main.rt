@@ -32,3 +32,6 @@ fn main(rt: HostRuntime) -> ExitCode {
     files.discard();
     ExitCode::from(end.status)
 }
+
+#[cfg(test)]
+mod tests;

@@ -1,0 +1,49 @@
+// An input of which only the size may be asked.
+ghost use Rattle.ap_files.specs.Machine.{no_faults, untold_files};
+
+use super::{assert_ends, refused};
+use ap_files::{Failed, Files};
+
+#[derive(Drop)]
+struct SizeAlone {
+    size: u64,
+    others: u64,
+}
+
+impl Files for SizeAlone {
+    ghost state = { λ _. untold_files no_faults };
+
+    fn size(&mut self, _name: &str) -> Result<u64, Failed> {
+        Ok(self.size)
+    }
+
+    fn read_at(&mut self, _name: &str, _at: u64, _buf: &mut [u8]) -> Result<(), Failed> {
+        self.others = self.others.saturating_add(1);
+        Ok(())
+    }
+
+    fn start(&mut self, _name: &str) -> Result<(), Failed> {
+        self.others = self.others.saturating_add(1);
+        Ok(())
+    }
+
+    fn add(&mut self, _name: &str, piece: &[u8]) -> Result<usize, Failed> {
+        self.others = self.others.saturating_add(1);
+        Ok(piece.len())
+    }
+
+    fn finish(&mut self, _name: &str) -> Result<(), Failed> {
+        self.others = self.others.saturating_add(1);
+        Ok(())
+    }
+}
+
+#[test]
+fn of_a_large_input_only_the_size_is_asked(rt: HostRuntime) {
+    let mut files = SizeAlone {
+        size: 268435457,
+        others: 0,
+    };
+    assert_ends(&rt, rt.alloc(), &mut files, 1, refused((1, 0, 268435457)));
+    assert_eq!(rt; files.others, 0);
+}
