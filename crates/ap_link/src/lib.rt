@@ -16,3 +16,6 @@ pub use fault::LinkFault;
 pub use field::Field;
 pub use link::link_one;
 pub use stream::{LinkEnd, link_file};
+
+#[cfg(test)]
+mod tests;
