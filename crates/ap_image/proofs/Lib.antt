@@ -3,3 +3,4 @@ pub mod RegionCells
 pub mod Totals
 pub mod Alike
 pub mod RunLemmas
+pub mod RunBytes

@@ -54,10 +54,9 @@ fn total(regions: &[Region]) -> u64
     total
 }
 
-#[tactic(auto, using(std::proofs::Common::append_assoc, crate::proofs::RunLemmas::run_bounds), unfolding(crate::specs::ImageFiles::image_file))]
+#[tactic(auto, using(std::proofs::Common::append_assoc, crate::proofs::RunLemmas::run_bounds, crate::proofs::RunBytes::byte_steps), unfolding(crate::specs::ImageFiles::image_file))]
 fn written(alloc: Global, plan: &Plan, file: &[u8]) -> Result<Vec<u8>, AllocError>
-    requires backed { AreBacked plan.now.regions (length file.now) }
-    requires narrow { total_of plan.now.regions ≤ 2 ^ 30 }
+    requires { AreBacked plan.now.regions (length file.now) }
     ensures { IfOk result (λ image. image.items ≡ image_file (bytes_in file.now) plan.now) }
 {
     let regions = plan.regions.as_slice();
