@@ -6,6 +6,7 @@ ghost use Rattle.ap_elf.specs.Fields.{entries_from, loads_in};
 ghost use Rattle.ap_elf.specs.ElfReading as elf;
 ghost use Rattle.ap_elf.specs.ElfReading.{dynamic_rules};
 ghost use Rattle.ap_elfmap.specs.ElfPlans.{Checks};
+ghost use Rattle.ap_elfmap.specs.declared.entries.TheConstants.{FRONT};
 ghost use Rattle.arrayvec.specs.ArrayVec.{array_vec_len};
 
 use crate::fault::fault;
@@ -34,7 +35,7 @@ pub fn entries_over(header: &[u8; 64], file: &[u8], at: usize, count: u16) -> Ar
 #[tactic(auto, using(crate::proofs::Fronts::front_steps))]
 fn front(header: &[u8; 64], file: &[u8]) -> ArrayVec<u8, FRONT>
     requires { 64 ≤ length file.now }
-    ensures { result.items ≡ take 3648 (over file.now header.now) }
+    ensures { result.items ≡ take FRONT (over file.now header.now) }
 {
     let end = file.len().min(FRONT);
     let mut front = ArrayVec::new();
@@ -44,7 +45,7 @@ fn front(header: &[u8; 64], file: &[u8]) -> ArrayVec<u8, FRONT>
 }
 
 fn push_bytes(out: &mut ArrayVec<u8, FRONT>, bytes: &[u8])
-    requires { array_vec_len out.old + length bytes.now ≤ 3648 }
+    requires { array_vec_len out.old + length bytes.now ≤ FRONT }
     ensures { out.new.items ≡ out.old.items ++ bytes.now }
 {
     for byte in bytes {

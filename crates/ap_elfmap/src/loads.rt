@@ -8,7 +8,8 @@ ghost use Rattle.ap_elfmap.specs.ElfPlans as spec;
 ghost use Rattle.ap_elfmap.specs.ElfPlans.{Checks, region_of, stop_of, IsLoad};
 
 use crate::fault::{check, fault};
-use ap_elf::{ElfCause, ElfFault, Entry};
+use ap_elf::ElfCause::{Congruent, Order, Range, Sizes, Top};
+use ap_elf::{ElfFault, Entry};
 use ap_fields::{ceil_to, floor_to};
 use ap_image::{Perms, Region};
 use arrayvec::ArrayVec;
@@ -43,24 +44,19 @@ fn check_load(p: &Entry, k: u16, low: u64, size: u64, page: u64) -> Result<(), E
 {
     let bare = p.filesz == 0;
     let top = 1u64 << 47;
+    let within = p.filesz <= size && p.offset <= size - p.filesz;
     check(&[
-        (p.filesz <= p.memsz, fault(ElfCause::Sizes, k, p.filesz)),
-        (
-            bare || p.filesz <= size && p.offset <= size - p.filesz,
-            fault(ElfCause::Range, k, p.offset),
-        ),
+        (p.filesz <= p.memsz, fault(Sizes, k, p.filesz)),
+        (bare || within, fault(Range, k, p.offset)),
         (
             p.memsz <= top && p.vaddr <= top - p.memsz,
-            fault(ElfCause::Top, k, p.vaddr),
+            fault(Top, k, p.vaddr),
         ),
         (
             bare || p.offset % page == p.vaddr % page,
-            fault(ElfCause::Congruent, k, p.offset),
+            fault(Congruent, k, p.offset),
         ),
-        (
-            low <= floor_to(p.vaddr, page),
-            fault(ElfCause::Order, k, p.vaddr),
-        ),
+        (low <= floor_to(p.vaddr, page), fault(Order, k, p.vaddr)),
     ])
 }
 

@@ -1,9 +1,14 @@
 // A small program, and what some changed fields of it break.
-ghost use Rattle.ap_elfmap.specs.ElfPlans.{IsPage};
+ghost use Rattle.std.specs.Prelude.{◌≡◌, ℕ, List, length};
+ghost use Rattle.ap_check.specs.declared.machine.Machine.{Machine};
+ghost use Rattle.ap_check.specs.Machines.{number_of};
+ghost use Rattle.ap_elf.specs.ElfReading.{elf_reading};
+ghost use Rattle.ap_image.specs.Reading.{AgreeAt, AgreeOnPlan};
+ghost use Rattle.ap_elfmap.specs.ElfPlans.{IsPage, Looks, elf_plan};
 
 use crate::*;
 use ap_check::Machine;
-use ap_image::{Perms, Reading, Region, cell};
+use ap_image::{Perms, Reading, Region, cell, reads_alike};
 use bitflags::Flags;
 use std::process::Abort;
 use std::test::Fail;
@@ -174,10 +179,18 @@ fn a_header_from_elsewhere_brings_its_part_of_the_table(rt: HostRuntime) -> Resu
 fn cells_are_read_by_any_reading(rt: HostRuntime) -> Result<(), Fail> {
     let file = edited(&rt, &[(1, 4096, 7)]);
     let file = file.get(..SIZE).ok_or("too short")?;
+    alike();
     let found = cell_read(&reading(), file, 0x401000);
     assert_eq!(rt; found, Some((7, Perms::from_bits_retain(5))));
     assert_eq!(rt; cell_read(&reading(), file, 0x402000), None);
     Ok(())
+}
+
+/// Files of equal length that agree on the first's header and table, and on what its plan shows, are read alike.
+fn alike()
+    ensures { (m : Machine) (page : ℕ) (f g : List ℕ) → IsPage m page → length f ≡ length g → AgreeAt (Looks f) f g → AgreeOnPlan (elf_plan (number_of m) page f) f g → elf_reading (number_of m) page f ≡ elf_reading (number_of m) page g }
+{
+    reads_alike::<ElfReading>()
 }
 
 /// The reading for x86-64.

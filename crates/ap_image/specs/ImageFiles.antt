@@ -33,6 +33,7 @@ shown_byte byte regions a = byte_of (cell_in byte regions a)
 abbrev pub run_bytes : (ℕ → ℕ) → List Region → Run → List ℕ
 run_bytes byte regions run = listed (shown_byte byte regions) run.start run.length
 
+-- the image file
 unfoldable pub image_file : (ℕ → ℕ) → Mapping → List ℕ
 image_file byte m =
     image_head m.entry (length (runs_of m.regions))
