@@ -1,3 +1,4 @@
 pub mod Rules
 pub mod Inputs
 pub mod Ends
+pub mod Machines

@@ -8,6 +8,7 @@ mod file;
 mod header;
 mod input;
 mod loads;
+mod machine;
 mod size;
 mod span;
 mod table;
@@ -16,6 +17,7 @@ pub use check::check_input;
 pub use fault::Fault;
 pub use file::{CheckEnd, check_input_in};
 pub use input::Input;
+pub use machine::Machine;
 pub use size::check_size;
 
 #[cfg(test)]
