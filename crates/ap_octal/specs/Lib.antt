@@ -1,0 +1,4 @@
+pub mod OctalText
+pub mod OctalSteps
+pub mod Statement
+pub mod Embedded

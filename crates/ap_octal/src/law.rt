@@ -1,0 +1,15 @@
+// What holds of octal text itself.
+ghost use Rattle.std.specs.Prelude.{◌≡◌, ◌<◌, ℕ, List};
+ghost use Rattle.std.specs.List.{All};
+ghost use Rattle.ap_octal.specs.OctalText.{IsOctal};
+ghost use Rattle.ap_octal.specs.Statement.{octals_of};
+
+/// A text stands for at most one list of bytes.
+pub fn octal_texts_are_exact()
+    ensures { (text a b : List ℕ) → IsOctal text a → IsOctal text b → a ≡ b }
+{}
+
+/// What stands between the quotes of a canonical statement is octal text of its bytes.
+pub fn statements_are_octal()
+    ensures { (header : List ℕ) → All (λ c. c < 256) header → IsOctal (octals_of header) header }
+{}
