@@ -3,9 +3,8 @@ ghost use Rattle.std.specs.Prelude.{◌≡◌, ◌<◌, drop, length, slice_inde
 ghost use Rattle.ap_octal.specs.OctalText.{IsPlain, EndsDigits};
 ghost use Rattle.ap_octal.specs.OctalSteps.{Begins, HasDigit, IsNoOctal, Spells};
 
-/// The first 64 of the bytes that the text stands for, followed by zeros where there are fewer, and how many bytes it
-/// stands for. None exactly where it isn't octal text.
-pub fn octal_bytes(text: &[u8]) -> Option<([u8; 64], usize)>
+/// The first 64 of the bytes that the text stands for, and how many these are. None exactly where it isn't octal text.
+pub(crate) fn octal_bytes(text: &[u8]) -> Option<([u8; 64], usize)>
     ensures { MatchOption result (IsNoOctal text.now) (λ p. Spells text.now p.0 p.1) }
 {
     let mut first = [0; 64];

@@ -38,16 +38,8 @@ fn put_octal(out: &mut [u8], at: usize, byte: u8) -> usize
     if is_letter(byte) {
         put_text(out, at, &[byte])
     } else {
-        put_text(
-            out,
-            at,
-            &[
-                b'\\',
-                b'0' + byte / 64,
-                b'0' + byte / 8 % 8,
-                b'0' + byte % 8,
-            ],
-        )
+        let digits = [b'0' + byte / 64, b'0' + byte / 8 % 8, b'0' + byte % 8];
+        put_text(out, at, &[b'\\', digits[0], digits[1], digits[2]])
     }
 }
 
