@@ -1,8 +1,9 @@
 -- Octal text of a list of bytes.
-use Rattle.std.proofs.Common.{◌≡◌, ℕ, ◌+◌, ◌/◌, ◌%◌, ◌<◌, List, [], ◌∷◌, ◌++◌, Bool, true, false, cond, refl, sym, ap, ◌∙◌, subst, arith}
+use Rattle.std.proofs.Common.{◌≡◌, ℕ, ◌+◌, ◌/◌, ◌%◌, ◌<◌, List, [], ◌∷◌, ◌++◌, Bool, true, false, cond, refl, sym, ap, ◌∙◌, subst, arith, get_or}
 use Rattle.std.specs.List.{All, AllByRecursion}
 use Rattle.std.proofs.lemmas.List.Elements.{recursion_from_All}
 use Rattle.std.proofs.lemmas.Bool.Decides.{nat_tests}
+use Rattle.std.proofs.lemmas.List.{get_or_default}
 use Rattle.ap_octal.specs.OctalText.{IsOctal, IsPlain, octal1, octal2, octal3}
 use Rattle.ap_octal.specs.OctalText.IsOctal.{empty, plain, one, two, three}
 use Rattle.ap_octal.specs.Statement.{is_letter, octals_of}
@@ -49,3 +50,6 @@ octal-each (c ∷ header) all = octal-byte (is_letter c) c (octals_of header) he
 -- the canonical text of bytes is octal text of them
 pub octal-octals : (header : List ℕ) → All (λ c. c < 256) header → IsOctal (octals_of header) header
 octal-octals header all = octal-each header (recursion_from_All (λ c. c < 256) header all)
+
+pub octal-bytes : (header : List ℕ) → ((i : ℕ) → get_or header i 0 < 256) → IsOctal (octals_of header) header
+octal-bytes header small = octal-octals header (λ k d h. subst (λ c. c < 256) (get_or_default header k 0 d h) (small k))

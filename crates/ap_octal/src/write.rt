@@ -1,8 +1,9 @@
 // The canonical statement.
 ghost use Rattle.std.specs.Prelude.{◌≡◌, ◌+◌, ◌≤◌, length};
 ghost use Rattle.ap_fields.specs.Fields.{patched};
+ghost use Rattle.ap_octal.specs.OctalText.{IsOctal};
 ghost use Rattle.ap_octal.specs.Statement as statement;
-ghost use Rattle.ap_octal.specs.Statement.{octal_of, statement_of};
+ghost use Rattle.ap_octal.specs.Statement.{octal_of, octals_of, statement_of};
 
 /// Writes from `at` on the canonical statement, which prints the header, and answers its length: 265 bytes at most, for
 /// which there is room. All other bytes stay.
@@ -10,6 +11,7 @@ pub fn write_statement(out: &mut [u8], at: usize, header: &[u8; 64]) -> usize
     requires { at + 265 ≤ length out.old }
     ensures count { result ≡ length (statement_of header.now) }
     ensures text { out.new ≡ patched out.old at (statement_of header.now) }
+    ensures octal { IsOctal (octals_of header.now) header.now }
 {
     let mut end = put_text(out, at, b"printf '");
     for byte in header {

@@ -1,5 +1,6 @@
 use Rattle.std.proofs.Common.{ℕ, List, ◌<◌, length, get_or, arith}
 use Rattle.std.specs.Prelude.{codes}
+use Rattle.ap_octal.proofs.OctalLemmas.{octal-bytes}
 use Rattle.ap_octal.proofs.WriteLemmas.{length-octal_of, length-begun_more, written-more, written-all, length-written}
 use Rattle.ap_octal.proofs.write.write_statement.Goals as goal
 
@@ -27,3 +28,6 @@ pub returns-clause-text : goal.returns-clause-text
 returns-clause-text c =
     written-all c.args.out.now c.loop-byte.out c.put_text.new.out c.args.header.now c.args.at c.loop-byte.end c.loop-byte.byte-index (omega arith) (omega arith)
     c.loop-byte.invariant.written c.loop-byte.invariant.end c.put_text.ensures.text
+
+pub returns-clause-octal : goal.returns-clause-octal
+returns-clause-octal c = octal-bytes c.args.header.now c.fits-header
