@@ -7,6 +7,7 @@ mod fault;
 mod header;
 mod input;
 mod loads;
+mod machine;
 mod size;
 mod span;
 mod table;
@@ -14,6 +15,7 @@ mod table;
 pub use check::check_input;
 pub use fault::Fault;
 pub use input::Input;
+pub use machine::Machine;
 pub use size::check_size;
 
 #[cfg(test)]

@@ -1,0 +1,31 @@
+-- The image file of a plan: a mark, the entry, a table of the runs, and the bytes of all runs in order.
+use Rattle.std.specs.Prelude.{ℕ, List, ◌++◌, length, codes, flat_map, sum_by}
+use Rattle.ap_fields.specs.Fields.{bytes_of}
+use Rattle.ap_fields.specs.Bytes.{listed}
+use Rattle.ap_image.specs.declared.plan.Region.{Region}
+use Rattle.ap_image.specs.declared.run.Run.{Run}
+use Rattle.ap_image.specs.Plans.{Mapping, region_byte}
+use Rattle.ap_image.specs.Runs.{runs_of}
+
+-- how many addresses regions have
+abbrev pub total_of : List Region → ℕ
+total_of regions = sum_by (λ r. r.span) regions
+
+-- a line of the table, of 24 bytes: the start, the length, the permissions, and 0
+unfoldable pub run_line : Run → List ℕ
+run_line run = bytes_of 8 run.start ++ (bytes_of 8 run.length ++ (bytes_of 4 run.perms.0 ++ bytes_of 4 0))
+
+-- the mark, the entry, and the number of runs
+unfoldable pub image_head : ℕ → ℕ → List ℕ
+image_head entry count = codes "APEIMAGE" ++ (bytes_of 8 entry ++ (bytes_of 4 count ++ bytes_of 4 0))
+
+-- the bytes at the addresses of a region
+abbrev pub region_bytes : (ℕ → ℕ) → Region → List ℕ
+region_bytes byte r = listed (region_byte byte r) r.start r.span
+
+-- the image file; the regions in order have the addresses of the runs in order
+unfoldable pub image_file : (ℕ → ℕ) → Mapping → List ℕ
+image_file byte m =
+    image_head m.entry (length (runs_of m.regions))
+    ++ (flat_map run_line (runs_of m.regions)
+    ++ flat_map (region_bytes byte) m.regions)

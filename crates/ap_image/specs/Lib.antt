@@ -1,0 +1,4 @@
+pub mod Plans
+pub mod Runs
+pub mod ImageFiles
+pub mod Reading
