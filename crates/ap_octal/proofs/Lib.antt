@@ -1,5 +1,6 @@
 pub mod OctalSplits
 pub mod OctalLemmas
+pub mod OctalReads
 pub mod OctalFronts
 pub mod PatchLemmas
 pub mod WriteLemmas

@@ -10,7 +10,7 @@ mod types;
 mod write;
 
 pub use decode::decode_at;
-pub use law::{octal_texts_are_exact, statements_are_octal};
+pub use law::{octal_texts_are_exact, octal_texts_are_read, statements_are_octal};
 pub use search::statements;
 pub use types::Decoded;
 pub use write::write_statement;
