@@ -1,5 +1,5 @@
 -- What stands in a part of a file's window.
-use Rattle.std.proofs.Common.{◌≡◌, ℕ, ◌+◌, ◌-◌, ◌<◌, ◌≤◌, List, length, take, drop, get_or, min, sym, ap, ◌∙◌, arith, length-drop, length-take}
+use Rattle.std.proofs.Common.{◌≡◌, ℕ, ◌+◌, ◌-◌, ◌<◌, ◌≤◌, List, length, take, drop, get_or, min, sym, ap, ◌∙◌, arith, length-drop, length-take, refl, subst}
 use Rattle.std.specs.Prelude.{codes, slice_index, Some, None}
 use Rattle.std.proofs.lemmas.List.{get_or-drop, get_or-take, take_rest}
 use Rattle.std.proofs.lemmas.Bool.Decides.{nat_tests}
@@ -7,10 +7,10 @@ use Rattle.memchr.specs.Find.{IsFirst, IsFirstByte, FindsNeedle, OccursAt, Passe
 use Rattle.ap_fields.specs.declared.sizes.TheConstants.{WINDOW}
 use Rattle.ap_octal.specs.Embedded.{Opens, Closes}
 
-part-at : (file : List ℕ) (n from i : ℕ) → from + i < n → get_or (drop from (take n file)) i 0 ≡ get_or file (from + i) 0
+pub part-at : (file : List ℕ) (n from i : ℕ) → from + i < n → get_or (drop from (take n file)) i 0 ≡ get_or file (from + i) 0
 part-at file n from i h = get_or-drop from (take n file) i 0 ∙ get_or-take n file (from + i) 0 h
 
-length-part : (file : List ℕ) (n from : ℕ) → length (drop from (take n file)) ≡ min n (length file) - from
+pub length-part : (file : List ℕ) (n from : ℕ) → length (drop from (take n file)) ≡ min n (length file) - from
 length-part file n from = length-drop from (take n file) ∙ ap (λ k. k - from) (length-take n file)
 
 -- the part of the window that code looks through
@@ -93,3 +93,14 @@ opens-none file part from is h k low below o =
     let there = occurs file part from k is low o in
     let fits = there.fits in
     h (k - from) (omega arith) (omega arith) there
+
+-- over the whole window
+pub window-occurs : (file : List ℕ) (k : ℕ) → Opens file k → OccursAt (take WINDOW file) (codes "printf '") k
+window-occurs file k o =
+    let same : k - 0 ≡ k = omega arith in
+    subst (λ i. OccursAt (take WINDOW file) (codes "printf '") i) same (occurs file (drop 0 (take WINDOW file)) 0 k refl (omega arith) o)
+
+pub window-opens : (file : List ℕ) (k : ℕ) → OccursAt (take WINDOW file) (codes "printf '") k → Opens file k
+window-opens file k o =
+    let same : 0 + k ≡ k = omega arith in
+    subst (λ i. Opens file i) same (opens file (drop 0 (take WINDOW file)) 0 k refl o)
