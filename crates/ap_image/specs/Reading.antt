@@ -1,8 +1,13 @@
 -- How a plan stands to the definition of a reading, and when two files look alike to a reading.
-use Rattle.std.specs.Prelude.{◌≡◌, ℕ, ◌+◌, ◌<◌, List, [], ◌∷◌, length, Result, Ok, Err}
+use Rattle.std.specs.Prelude.{◌≡◌, ℕ, ◌+◌, ◌<◌, List, [], ◌∷◌, length, Option, Some, None, Result, Ok, Err}
 use Rattle.ap_fields.specs.Readings.{MemoryImage, bytes_in}
 use Rattle.ap_image.specs.declared.plan.Region.{Region}
 use Rattle.ap_image.specs.Plans.{Mapping, AreBacked, cell_in}
+
+-- the mapping, unless there is a fault
+abbrev pub mapping_unless : {Fault : Type 0} → Option Fault → Mapping → Result Mapping Fault
+mapping_unless None m = Ok m
+mapping_unless (Some fault) m = Err fault
 
 -- a plan shows an image: it starts where the image does, and has its cell at each address
 pub record Shows (m : Mapping) (file : List ℕ) (image : MemoryImage) : Type 0 where

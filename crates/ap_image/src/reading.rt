@@ -1,7 +1,7 @@
 // Readings of files.
-ghost use Rattle.std.specs.Prelude.{◌≡◌, ℕ, List, Result, length};
+ghost use Rattle.std.specs.Prelude.{◌≡◌, ℕ, List, Result, length, IfOk};
 ghost use Rattle.ap_fields.specs.Readings.{MemoryImage};
-ghost use Rattle.ap_image.specs.Plans.{Mapping};
+ghost use Rattle.ap_image.specs.Plans.{Mapping, AreBacked};
 ghost use Rattle.ap_image.specs.Reading.{IsPlanOf, AgreeAt, AgreeOnPlan};
 
 use crate::plan::Plan;
@@ -28,7 +28,8 @@ pub trait Reading {
     fn read(&self, file: &[u8]) -> Result<Plan, Self::Fault>
         requires { is_well_formed self.now }
         ensures plan { result ≡ plan self.now file.now }
-        ensures image { IsPlanOf result file.now (reading self.now file.now) };
+        ensures image { IsPlanOf result file.now (reading self.now file.now) }
+        ensures backed { IfOk result (λ plan. AreBacked plan.regions (length file.now)) };
 
     /// The plan shows what the definition says, address by address.
     ghost cells: { (r : Self) (f : List ℕ) → is_well_formed r → IsPlanOf (plan r f) f (reading r f) };

@@ -1,0 +1,2 @@
+pub mod ElfPlans
+pub mod Laws

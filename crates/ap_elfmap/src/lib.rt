@@ -1,0 +1,15 @@
+//! The reading of static ELF files of 64 bits, little endian: the plan of memory by which such a file is mapped, or why it
+//! is refused.
+#![tactic(auto)]
+
+mod entries;
+mod fault;
+mod header;
+mod loads;
+mod reading;
+
+pub use ap_elf::{ElfCause, ElfFault};
+pub use reading::{ElfReading, read_with};
+
+#[cfg(test)]
+mod tests;
