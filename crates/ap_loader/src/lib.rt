@@ -2,6 +2,13 @@
 //! puts into memory (APE specification).
 #![tactic(auto)]
 
+mod fault;
 mod header;
+mod reading;
 
+pub use fault::ApeFault;
 pub use header::embedded;
+pub use reading::ApeReading;
+
+#[cfg(test)]
+mod tests;
