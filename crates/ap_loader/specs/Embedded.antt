@@ -10,7 +10,8 @@ use Rattle.ap_octal.specs.OctalReading.{octal_bytes_of}
 -- the file begins as one of the format
 abbrev pub has_magic : List ℕ → Bool
 has_magic file =
-    starts_with nat_eq file (codes "MZqFpD='") || (starts_with nat_eq file (codes "jartsr='") || starts_with nat_eq file (codes "APEDBG='"))
+    starts_with nat_eq file (codes "MZqFpD='")
+    || (starts_with nat_eq file (codes "jartsr='") || starts_with nat_eq file (codes "APEDBG='"))
 
 -- the text in front of the first quote, where there is one
 abbrev pub before_quote : List ℕ → Option (List ℕ)
@@ -19,11 +20,13 @@ before_quote (c ∷ text) = if c == 39 then Some [] else option_map (λ front. c
 
 -- bytes begin as an ELF header of 64 bits, little endian, for the machine
 abbrev pub begins_header : ℕ → List ℕ → Bool
-begins_header machine bytes = starts_with nat_eq bytes (127 ∷ 69 ∷ 76 ∷ 70 ∷ 2 ∷ 1 ∷ []) && number_at 2 18 bytes == machine
+begins_header machine bytes =
+    starts_with nat_eq bytes (127 ∷ 69 ∷ 76 ∷ 70 ∷ 2 ∷ 1 ∷ []) && number_at 2 18 bytes == machine
 
 -- the first 64 bytes, where they are such a header
 abbrev pub header_in : ℕ → List ℕ → Option (List ℕ)
-header_in machine bytes = if nat_le 64 (length bytes) && begins_header machine (take 64 bytes) then Some (take 64 bytes) else None
+header_in machine bytes =
+    if nat_le 64 (length bytes) && begins_header machine (take 64 bytes) then Some (take 64 bytes) else None
 
 -- the header that a statement at a place of the window prints, where there is one for the machine
 abbrev pub header_at : ℕ → List ℕ → ℕ → Option (List ℕ)

@@ -1,19 +1,16 @@
 // Files of other tools: statements that spell bytes in other ways, places at the window's edge, and what a loader takes.
-ghost use Rattle.ap_check.specs.declared.machine.Machine.TheVariants.{X64};
-ghost use Rattle.ap_elfmap.specs.ElfPlans.{IsPage};
-
 use crate::*;
 use ap_check::Machine;
 use ap_elfmap::{ElfCause, ElfFault};
 use ap_image::{Perms, Reading, Region};
 use bitflags::Flags;
 use std::alloc::{AllocError, Global};
-use std::process::Abort;
 use std::test::Fail;
 
 /// A header for x86-64 whose program header table stands at 2560.
-const HEADER: [u8; 64] =
-    *b"\x7f\x45\x4c\x46\x02\x01\x01\x09\0\0\0\0\0\0\0\0\x02\0\x3e\0\x01\0\0\0\0\x10\x40\0\0\0\0\0\0\x0a\0\0\0\0\0\0\0\0\0\0\0\0\0\0\0\0\0\0\x40\0\x38\0\x01\0\0\0\0\0\0\0";
+const HEADER: [u8; 64] = *b"\x7f\x45\x4c\x46\x02\x01\x01\x09\0\0\0\0\0\0\0\0\x02\0\x3e\0\x01\0\0\0\
+    \0\x10\x40\0\0\0\0\0\0\x0a\0\0\0\0\0\0\0\0\0\0\0\0\0\0\
+    \0\0\0\0\x40\0\x38\0\x01\0\0\0\0\0\0\0";
 
 /// The text of that header with as few digits as there can be.
 const SHORT_TEXT: &[u8] =
@@ -22,14 +19,15 @@ const SHORT_TEXT: &[u8] =
 
 /// The text of a header for AArch64.
 const OTHER_TEXT: &[u8] =
-    b"\\177ELF\\002\\001\\001\\011\\000\\000\\000\\000\\000\\000\\000\\000\\002\\000\\267\\000\\001\\000\\0\
-    00\\000\\000\\000\\100\\000\\000\\000\\000\\000\\000\\012\\000\\000\\000\\000\\000\\000\\000\\000\\0\
-    00\\000\\000\\000\\000\\000\\000\\000\\000\\000\\100\\000\\070\\000\\001\\000\\000\\000\\000\\000\\0\
-    00\\000";
+    b"\\177ELF\\002\\001\\001\\011\\000\\000\\000\\000\\000\\000\\000\\000\\002\\000\\267\\000\\001\\000\
+    \\000\\000\\000\\000\\100\\000\\000\\000\\000\\000\\000\\012\\000\\000\\000\\000\\000\\000\\000\\000\
+    \\000\\000\\000\\000\\000\\000\\000\\000\\000\\000\\100\\000\\070\\000\\001\\000\\000\\000\\000\\000\
+    \\000\\000";
 
 /// A program header: 16 bytes at 4096 of the file are loaded at 0x401000.
 const TABLE: &[u8] =
-    b"\x01\0\0\0\x05\0\0\0\0\x10\0\0\0\0\0\0\0\x10\x40\0\0\0\0\0\0\0\0\0\0\0\0\0\x10\0\0\0\0\0\0\0\x10\0\0\0\0\0\0\0\0\x10\0\0\0\0\0\0";
+    b"\x01\0\0\0\x05\0\0\0\0\x10\0\0\0\0\0\0\0\x10\x40\0\0\0\0\0\0\0\0\0\0\0\0\0\x10\0\0\0\0\0\0\0\x10\0\0\
+    \0\0\0\0\0\0\x10\0\0\0\0\0\0";
 
 /// A file with a statement for AArch64 at 9 and one for x86-64 behind it, cut to a length.
 fn foreign(alloc: Global, length: usize) -> Result<Vec<u8>, AllocError> {

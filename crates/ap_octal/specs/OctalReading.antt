@@ -13,7 +13,8 @@ is_plain c = nat_le 1 c && (nat_le c 127 && (not (c == 37) && (not (c == 39) && 
 abbrev pub with_digits : ℕ → ℕ → List ℕ → ℕ × List ℕ
 with_digits zero value text = (value, text)
 with_digits (suc n) value [] = (value, [])
-with_digits (suc n) value (c ∷ text) = if is_octal_digit c then with_digits n (value * 8 + octal1 c) text else (value, c ∷ text)
+with_digits (suc n) value (c ∷ text) =
+    if is_octal_digit c then with_digits n (value * 8 + octal1 c) text else (value, c ∷ text)
 
 -- a value that is a byte, and the text behind it
 abbrev pub byte_before : ℕ × List ℕ → Option (ℕ × List ℕ)

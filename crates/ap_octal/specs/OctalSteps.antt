@@ -5,7 +5,8 @@ use Rattle.ap_octal.specs.OctalText.{IsOctal, IsOctalDigit, octal1}
 -- the text's front stands for these bytes, whatever the rest stands for
 pub record Splits (text front rest : List ℕ) : Type 0 where
   pub there : (behind : List ℕ) → IsOctal rest behind → IsOctal text (front ++ behind)
-  pub back : (bytes : List ℕ) → IsOctal text bytes → (behind : List ℕ) × (bytes ≡ front ++ behind) × IsOctal rest behind
+  pub back : (bytes : List ℕ) → IsOctal text bytes
+      → (behind : List ℕ) × (bytes ≡ front ++ behind) × IsOctal rest behind
 
 -- the text's first bytes, as many as `width`, stand for one byte
 pub record Begins (text : List ℕ) (byte width : ℕ) : Type 0 where

@@ -29,12 +29,14 @@ octal2 a b = octal1 a * 8 + octal1 b
 abbrev pub octal3 : ℕ → ℕ → ℕ → ℕ
 octal3 a b c = octal2 a b * 8 + octal1 c
 
--- a text stands for a list of bytes; 92 is the backslash
+-- a text stands for a list of bytes: a byte for itself, or a backslash (92) and the one, two or three octal digits that
+-- follow it for their value, which is a byte's
 pub data IsOctal : List ℕ → List ℕ → Type 0 where
   empty : IsOctal [] []
   plain : (c : ℕ) (text bytes : List ℕ) → IsPlain c → IsOctal text bytes → IsOctal (c ∷ text) (c ∷ bytes)
-  one : (a : ℕ) (text bytes : List ℕ) → IsOctalDigit a → EndsDigits text → IsOctal text bytes → IsOctal (92 ∷ a ∷ text) (octal1 a ∷ bytes)
+  one : (a : ℕ) (text bytes : List ℕ) → IsOctalDigit a → EndsDigits text → IsOctal text bytes
+      → IsOctal (92 ∷ a ∷ text) (octal1 a ∷ bytes)
   two : (a b : ℕ) (text bytes : List ℕ) → IsOctalDigit a → IsOctalDigit b → EndsDigits text → IsOctal text bytes
       → IsOctal (92 ∷ a ∷ b ∷ text) (octal2 a b ∷ bytes)
-  three : (a b c : ℕ) (text bytes : List ℕ) → IsOctalDigit a → IsOctalDigit b → IsOctalDigit c → octal3 a b c ≤ 255 → IsOctal text bytes
-      → IsOctal (92 ∷ a ∷ b ∷ c ∷ text) (octal3 a b c ∷ bytes)
+  three : (a b c : ℕ) (text bytes : List ℕ) → IsOctalDigit a → IsOctalDigit b → IsOctalDigit c → octal3 a b c ≤ 255
+      → IsOctal text bytes → IsOctal (92 ∷ a ∷ b ∷ c ∷ text) (octal3 a b c ∷ bytes)
