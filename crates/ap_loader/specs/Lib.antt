@@ -1,0 +1,3 @@
+pub mod Embedded
+pub mod ApeReading
+pub mod Laws

@@ -1,0 +1,5 @@
+pub mod OctalText
+pub mod OctalReading
+pub mod OctalSteps
+pub mod Statement
+pub mod Embedded
