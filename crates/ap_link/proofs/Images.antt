@@ -12,9 +12,10 @@ use Rattle.ap_elf.specs.Fields.{header_of, entries_of, loads_in, is_load}
 use Rattle.ap_fields.specs.Readings.{Cell, bytes_in}
 use Rattle.ap_elf.specs.InputCell.{input_cell, has_address, load_byte, permissions_of}
 use Rattle.ap_fields.specs.FirstFault.{Rules, first_fault}
-use Rattle.ap_elf.specs.ElfReading.{header_rules, dynamic_rules, loads_rules, elf_rules, elf_reading, page_byte, page_cell, has_in_pages, refusal}
+use Rattle.ap_elf.specs.ElfReading.{header_rules, dynamic_rules, loads_rules, elf_rules, elf_reading, elf_reading_by, page_byte, page_cell, has_in_pages, refusal}
 use Rattle.ap_fields.proofs.FirstFaults.{none-append}
 use Rattle.ap_link.specs.Linkable.{IsLinkable}
+use Rattle.ap_link.specs.Linked.{area_of}
 use Rattle.ap_link.specs.Same.{Same, IsBeside}
 use Rattle.ap_link.proofs.Areas.{get_or-area_of, length-area_of}
 use Rattle.ap_link.proofs.Loaded.{loaded, length-loaded, loaded-area, place_of, entry_in, FitsTable, number_at-take, magic_is, class_is, endian_is, ident_version_is, type_is, machine_is, version_is, entry_is, phoff_is, phentsize_is, phnum_is, table_there}
@@ -97,18 +98,22 @@ reading_passes byte entry p h fits =
     ∙ ap (λ ls. first_fault (last ls)) loads
     ∙ none-append (loads_rules 4096 (length x) 1 0 (entry_in p ∷ [])) ((nat_lt 0 1, refusal NoLoad 0 0) ∷ []) (load_passes byte entry p h)
 
+-- a function shows the area where the linked file has it
+abbrev pub ShowsArea : (ℕ → ℕ) → (ℕ → ℕ) → Entry → Type 0
+ShowsArea shown byte p = (j : ℕ) → shown (16384 + j) ≡ slice_index (area_of byte p) j
+
 -- the file's byte at the place of an address in the granules of a load
-byte_at_place : (byte : ℕ → ℕ) (entry : ℕ) (p : Entry) (a : ℕ) → 0 < p.filesz → floor_of p.vaddr 4096 ≤ a
-    → slice_index (loaded byte entry p) (16384 + p.vaddr % 4096 + a - p.vaddr) ≡ cond (nat_le p.vaddr a && nat_lt a (p.vaddr + p.filesz)) (byte (p.offset + (a - p.vaddr))) 0
-byte_at_place byte entry p a some near =
+byte_at_place : (byte shown : ℕ → ℕ) (p : Entry) (a : ℕ) → ShowsArea shown byte p → 0 < p.filesz → floor_of p.vaddr 4096 ≤ a
+    → shown (16384 + p.vaddr % 4096 + a - p.vaddr) ≡ cond (nat_le p.vaddr a && nat_lt a (p.vaddr + p.filesz)) (byte (p.offset + (a - p.vaddr))) 0
+byte_at_place byte shown p a area some near =
     let d : ℕ = p.vaddr % 4096 in
     let k : ℕ = d + a - p.vaddr in
     let there : 16384 + d + a - p.vaddr ≡ 16384 + k = omega arith in
     let t1 : nat_le d k ≡ nat_le p.vaddr a = grind (arith, nat_tests) in
     let t2 : nat_lt k (d + p.filesz) ≡ nat_lt a (p.vaddr + p.filesz) = grind (arith, nat_tests) in
     let back : k - d ≡ a - p.vaddr = omega arith in
-    ap (slice_index (loaded byte entry p)) there
-    ∙ loaded-area byte entry p k
+    ap shown there
+    ∙ area k
     ∙ get_or-area_of byte p k some
     ∙ rw (t1, t2, back) refl
 
@@ -116,16 +121,16 @@ tested : (m n : ℕ) → (m < n × (nat_lt m n ≡ true)) ⊎ (n ≤ m × (nat_l
 tested m n = grind (arith, nat_tests)
 
 -- the byte that the pages show at an address of the load
-shows_part : (byte : ℕ → ℕ) (entry : ℕ) (p : Entry) (a : ℕ) → IsLinkable entry p → p.vaddr ≤ a → a < p.vaddr + p.memsz
-    → page_byte (length (loaded byte entry p)) (bytes_in (loaded byte entry p)) (entry_in p) a ≡ load_byte byte p a
-shows_part byte entry p a h low high =
+shows_part : (byte shown : ℕ → ℕ) (entry : ℕ) (p : Entry) (a : ℕ) → ShowsArea shown byte p → IsLinkable entry p → p.vaddr ≤ a → a < p.vaddr + p.memsz
+    → page_byte (length (loaded byte entry p)) shown (entry_in p) a ≡ load_byte byte p a
+shows_part byte shown entry p a area h low high =
     elim (zero_or p.filesz) [
       | inl z ↦ let t : (p.filesz == 0) ≡ true = grind (arith, nat_tests) in let u : nat_lt (a - p.vaddr) p.filesz ≡ false = grind (arith, nat_tests) in rw (t, u) refl
       | inr some ↦ elim (tested a (p.vaddr + p.filesz)) [
         | inl lt ↦ (let u : nat_lt (a - p.vaddr) p.filesz ≡ true = let l = lt.0 in grind (arith, nat_tests) in
             let v : nat_le p.vaddr a ≡ true = grind (arith, nat_tests) in
             let near : floor_of p.vaddr 4096 ≤ a = omega arith in
-            let found : slice_index (loaded byte entry p) (16384 + p.vaddr % 4096 + a - p.vaddr) ≡ byte (p.offset + (a - p.vaddr)) = byte_at_place byte entry p a some near ∙ rw (v, lt.1) refl in
+            let found : shown (16384 + p.vaddr % 4096 + a - p.vaddr) ≡ byte (p.offset + (a - p.vaddr)) = byte_at_place byte shown p a area some near ∙ rw (v, lt.1) refl in
             rw (nonzero p.filesz some, lt.1, u) found)
         | inr ge ↦ let u : nat_lt (a - p.vaddr) p.filesz ≡ false = let l = ge.0 in grind (arith, nat_tests) in let v : nat_lt p.filesz p.memsz ≡ true = let l = ge.0 in grind (arith, nat_tests) in rw (nonzero p.filesz some, ge.1, u, v) refl
       ]
@@ -137,19 +142,19 @@ beside false true y e = e
 beside false false y e = refl
 
 -- and beside it
-shows_zero : (byte : ℕ → ℕ) (entry : ℕ) (p : Entry) (a : ℕ) → IsLinkable entry p → floor_of p.vaddr 4096 ≤ a → (a < p.vaddr) ⊎ (p.vaddr + p.memsz ≤ a)
-    → page_byte (length (loaded byte entry p)) (bytes_in (loaded byte entry p)) (entry_in p) a ≡ 0
-shows_zero byte entry p a h near side =
+shows_zero : (byte shown : ℕ → ℕ) (entry : ℕ) (p : Entry) (a : ℕ) → ShowsArea shown byte p → IsLinkable entry p → floor_of p.vaddr 4096 ≤ a → (a < p.vaddr) ⊎ (p.vaddr + p.memsz ≤ a)
+    → page_byte (length (loaded byte entry p)) shown (entry_in p) a ≡ 0
+shows_zero byte shown entry p a area h near side =
     let x = loaded byte entry p in
     let sizes = h.sizes in
     elim (zero_or p.filesz) [
       | inl z ↦ let t : (p.filesz == 0) ≡ true = grind (arith, nat_tests) in rw t refl
       | inr some ↦
           (let out : (nat_le p.vaddr a && nat_lt a (p.vaddr + p.filesz)) ≡ false = grind (arith, nat_tests) in
-          let none : slice_index x (16384 + p.vaddr % 4096 + a - p.vaddr) ≡ 0 = byte_at_place byte entry p a some near ∙ ap (λ b. cond b (byte (p.offset + (a - p.vaddr))) 0) out in
+          let none : shown (16384 + p.vaddr % 4096 + a - p.vaddr) ≡ 0 = byte_at_place byte shown p a area some near ∙ ap (λ b. cond b (byte (p.offset + (a - p.vaddr))) 0) out in
           elim (tested a (p.vaddr + p.filesz)) [
             | inl lt ↦ rw (nonzero p.filesz some, lt.1) none
-            | inr ge ↦ rw (nonzero p.filesz some, ge.1) (beside (nat_lt p.filesz p.memsz) (nat_lt (16384 + p.vaddr % 4096 + a - p.vaddr) (length x)) (slice_index x (16384 + p.vaddr % 4096 + a - p.vaddr)) none)
+            | inr ge ↦ rw (nonzero p.filesz some, ge.1) (beside (nat_lt p.filesz p.memsz) (nat_lt (16384 + p.vaddr % 4096 + a - p.vaddr) (length x)) (shown (16384 + p.vaddr % 4096 + a - p.vaddr)) none)
           ])
     ]
 
@@ -174,37 +179,37 @@ in_pages : (p : Entry) (a : ℕ) → ((floor_of p.vaddr 4096 ≤ a) × (a < ceil
 in_pages p a = grind (arith, nat_tests)
 
 -- the cell that the pages of the one load have
-abbrev found_at : (ℕ → ℕ) → ℕ → Entry → ℕ → Option Cell
-found_at byte entry p a = page_cell 4096 (length (loaded byte entry p)) (bytes_in (loaded byte entry p)) (entry_in p ∷ []) a
+abbrev found_at : (ℕ → ℕ) → (ℕ → ℕ) → ℕ → Entry → ℕ → Option Cell
+found_at byte shown entry p a = page_cell 4096 (length (loaded byte entry p)) shown (entry_in p ∷ []) a
 
-abbrev shown_at : (ℕ → ℕ) → ℕ → Entry → ℕ → ℕ
-shown_at byte entry p a = page_byte (length (loaded byte entry p)) (bytes_in (loaded byte entry p)) (entry_in p) a
+abbrev shown_at : (ℕ → ℕ) → (ℕ → ℕ) → ℕ → Entry → ℕ → ℕ
+shown_at byte shown entry p a = page_byte (length (loaded byte entry p)) shown (entry_in p) a
 
-found_cell : (byte : ℕ → ℕ) (entry : ℕ) (p : Entry) (a : ℕ) (c : Cell) → IsLinkable entry p → input_cell byte (p ∷ []) a ≡ Some c → found_at byte entry p a ≡ Some c
-found_cell byte entry p a c h e =
+found_cell : (byte shown : ℕ → ℕ) (entry : ℕ) (p : Entry) (a : ℕ) (c : Cell) → ShowsArea shown byte p → IsLinkable entry p → input_cell byte (p ∷ []) a ≡ Some c → found_at byte shown entry p a ≡ Some c
+found_cell byte shown entry p a c area h e =
     elim (in_load p a) [
       | inl t ↦
-          ap (λ n. cond n (Some (shown_at byte entry p a, permissions_of (entry_in p))) None) (pages_hold p a t.0 t.1)
-          ∙ ap (λ y. Some (y, permissions_of (entry_in p))) (shows_part byte entry p a h t.0 t.1)
+          ap (λ n. cond n (Some (shown_at byte shown entry p a, permissions_of (entry_in p))) None) (pages_hold p a t.0 t.1)
+          ∙ ap (λ y. Some (y, permissions_of (entry_in p))) (shows_part byte shown entry p a area h t.0 t.1)
           ∙ ap (λ m. Some (load_byte byte p a, m)) (permissions_stay p)
           ∙ sym (ap (λ n. cond n (Some (load_byte byte p a, permissions_of p)) None) t.2) ∙ e
       | inr f ↦ absurd (let none : None ≡ Some c = sym (ap (λ n. cond n (Some (load_byte byte p a, permissions_of p)) None) f.1) ∙ e in cc)
     ]
 
-other_cell : (byte : ℕ → ℕ) (entry : ℕ) (p : Entry) (a : ℕ) → IsLinkable entry p → input_cell byte (p ∷ []) a ≡ None
-    → (found_at byte entry p a ≡ None) ⊎ IsBeside 4096 (p ∷ []) a (found_at byte entry p a)
-other_cell byte entry p a h e =
+other_cell : (byte shown : ℕ → ℕ) (entry : ℕ) (p : Entry) (a : ℕ) → ShowsArea shown byte p → IsLinkable entry p → input_cell byte (p ∷ []) a ≡ None
+    → (found_at byte shown entry p a ≡ None) ⊎ IsBeside 4096 (p ∷ []) a (found_at byte shown entry p a)
+other_cell byte shown entry p a area h e =
     elim (in_pages p a) [
       | inl n ↦ elim (in_load p a) [
         | inl t ↦ absurd (let some : Some (load_byte byte p a, permissions_of p) ≡ None = sym (ap (λ x. cond x (Some (load_byte byte p a, permissions_of p)) None) t.2) ∙ e in cc)
         | inr f ↦ inr (inl (
           (n.0, n.1),
-          ap (λ x. cond x (Some (shown_at byte entry p a, permissions_of (entry_in p))) None) n.2
-              ∙ ap (λ y. Some (y, permissions_of (entry_in p))) (shows_zero byte entry p a h n.0 f.0)
+          ap (λ x. cond x (Some (shown_at byte shown entry p a, permissions_of (entry_in p))) None) n.2
+              ∙ ap (λ y. Some (y, permissions_of (entry_in p))) (shows_zero byte shown entry p a area h n.0 f.0)
               ∙ ap (λ m. Some (0, m)) (permissions_stay p),
         ))
       ]
-      | inr far ↦ inl (ap (λ x. cond x (Some (shown_at byte entry p a, permissions_of (entry_in p))) None) far)
+      | inr far ↦ inl (ap (λ x. cond x (Some (shown_at byte shown entry p a, permissions_of (entry_in p))) None) far)
     ]
 
 small_place : (t : Bool) (v : ℕ) → cond t 0 16384 + v % 4096 < 256 ^ 8
@@ -219,16 +224,21 @@ fits_of entry p h =
     let mask : bit_and p.flags 7 ≡ p.flags % 8 = and_mask p.flags 3 in
     record { flags = omega arith; offset = small_place (p.filesz == 0) p.vaddr; vaddr = omega arith; filesz = omega arith; memsz = omega arith }
 
--- the reading of the linked file with its header over its first bytes is the image of the input
-pub same_image : (byte : ℕ → ℕ) (entry : ℕ) (p : Entry) → IsLinkable entry p → Same 4096 byte (p ∷ []) entry (elf_reading 62 4096 (loaded byte entry p))
+-- the reading of the linked file with its header over its first bytes is the image of the input, also where its cells show
+-- another file's bytes, as long as that file has the area
+pub same_shown : (byte shown : ℕ → ℕ) (entry : ℕ) (p : Entry) → ShowsArea shown byte p → IsLinkable entry p
+    → Same 4096 byte (p ∷ []) entry (elf_reading_by 62 4096 (length (loaded byte entry p)) (header_of (loaded byte entry p)) (entries_of (loaded byte entry p)) shown)
 unfolding header_of
-same_image byte entry p h =
+same_shown byte shown entry p area h =
     let fits = fits_of entry p h in
     let loads = loads_there byte entry p fits h.some in
     let x = loaded byte entry p in
     let small : entry < 2 ^ 64 = let l = h.top in let t = h.high in omega arith in
     rw (reading_passes byte entry p h fits) record {
       entry = entry_is byte entry p small;
-      cells = λ a c e. ap (λ ls. page_cell 4096 (length x) (bytes_in x) ls a) loads ∙ found_cell byte entry p a c h e;
-      others = λ a e. subst (λ ls. (page_cell 4096 (length x) (bytes_in x) ls a ≡ None) ⊎ IsBeside 4096 (p ∷ []) a (page_cell 4096 (length x) (bytes_in x) ls a)) (sym loads) (other_cell byte entry p a h e);
+      cells = λ a c e. ap (λ ls. page_cell 4096 (length x) shown ls a) loads ∙ found_cell byte shown entry p a c area h e;
+      others = λ a e. subst (λ ls. (page_cell 4096 (length x) shown ls a ≡ None) ⊎ IsBeside 4096 (p ∷ []) a (page_cell 4096 (length x) shown ls a)) (sym loads) (other_cell byte shown entry p a area h e);
     }
+
+pub same_image : (byte : ℕ → ℕ) (entry : ℕ) (p : Entry) → IsLinkable entry p → Same 4096 byte (p ∷ []) entry (elf_reading 62 4096 (loaded byte entry p))
+same_image byte entry p h = same_shown byte (bytes_in (loaded byte entry p)) entry p (loaded-area byte entry p) h

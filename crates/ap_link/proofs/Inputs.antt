@@ -1,5 +1,6 @@
 -- From what was taken of an input to the linked file of its bytes.
 use Rattle.std.proofs.Common.{◌≡◌, ℕ, ◌<◌, ◌≤◌, ◌+◌, List, [], ◌∷◌, length, refl, sym, ap, ◌∙◌, subst}
+use Rattle.std.specs.Prelude.{◌↔◌}
 use Rattle.ap_fields.specs.Bytes.{Holds, over}
 use Rattle.ap_elf.specs.declared.types.Entry.{Entry}
 use Rattle.ap_fields.specs.Readings.{bytes_in}
@@ -7,13 +8,17 @@ use Rattle.ap_elf.specs.Fields.{header_of, entries_of, loads_in}
 use Rattle.ap_elf.specs.ElfReading.{elf_reading}
 use Rattle.ap_check.specs.Inputs.{Taken, taken_of, input_of}
 use Rattle.ap_link.specs.ElfWritten.{embedded_header}
-use Rattle.ap_link.specs.Script.{statement_of}
+use Rattle.ap_octal.specs.Embedded.{Opens}
+use Rattle.ap_octal.specs.Statement.{statement_of}
+use Rattle.ap_loader.specs.ApeReading.{ape_reading}
 use Rattle.ap_link.specs.Linkable.{IsLinkable}
 use Rattle.ap_link.specs.Linked.{linked_by, linked_with, statement_place}
 use Rattle.ap_link.specs.Same.{Same}
 use Rattle.ap_link.specs.Answers.{IsLinked, embedded_header_of}
 use Rattle.ap_link.proofs.Loaded.{statement_stands}
+use Rattle.ap_link.proofs.Statements.{opens-only}
 use Rattle.ap_link.proofs.Images.{same_image}
+use Rattle.ap_link.proofs.ApeImages.{same_ape}
 
 size_is : (b : List ℕ) → (input_of 1 b).size ≡ length b
 unfolding input_of taken_of
@@ -39,8 +44,13 @@ linked b file i entry p is start one h made =
       bytes = made ∙ ap (λ n. linked_by (bytes_in b) n p) e ∙ ap (linked_with (bytes_in b) (header_of b).e_entry) loads;
       statement = subst (λ n. Holds file statement_place (statement_of (embedded_header n))) e
           (subst (λ w. Holds w statement_place (statement_of (embedded_header entry))) back (statement_stands (bytes_in b) entry p));
+      only = λ k. subst (λ w. Opens w k ↔ (k ≡ statement_place)) back (opens-only (bytes_in b) entry p h k);
       image =
           subst (λ ls. Same 4096 (bytes_in b) ls (header_of b).e_entry (elf_reading 62 4096 (over file (embedded_header_of b)))) loads
           (subst (λ n. Same 4096 (bytes_in b) (p ∷ []) n (elf_reading 62 4096 (over file (embedded_header n)))) e
           (subst (λ w. Same 4096 (bytes_in b) (p ∷ []) entry (elf_reading 62 4096 (over w (embedded_header entry)))) back (same_image (bytes_in b) entry p h)));
+      ape =
+          subst (λ ls. Same 4096 (bytes_in b) ls (header_of b).e_entry (ape_reading 62 4096 file)) loads
+          (subst (λ n. Same 4096 (bytes_in b) (p ∷ []) n (ape_reading 62 4096 file)) e
+          (subst (λ w. Same 4096 (bytes_in b) (p ∷ []) entry (ape_reading 62 4096 w)) back (same_ape (bytes_in b) entry p h)));
     }

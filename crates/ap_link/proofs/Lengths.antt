@@ -11,7 +11,8 @@ use Rattle.ap_link.specs.declared.field.Field.{Field}
 use Rattle.ap_link.specs.Spelled.{width_of, value_of, field_bytes, spelled}
 use Rattle.ap_link.specs.ElfWritten.{embedded_header, header_fields, table_of, load_fields}
 use Rattle.ap_link.specs.Delimiter.{delimiter, delimiter_number, digits_of}
-use Rattle.ap_link.specs.Script.{octal_of, is_letter, statement_of, script_of, script_before, script_behind}
+use Rattle.ap_octal.specs.Statement.{octal_of, is_letter, statement_of}
+use Rattle.ap_link.specs.Script.{script_of, script_before, script_behind}
 use Rattle.ap_link.specs.Linked.{opening, body_of, closing, spaces, shell_text, block_of}
 
 -- the widths of some fields together
@@ -59,7 +60,7 @@ octal_by : (b : Bool) (c : ℕ) → length (cond b (c ∷ []) (92 ∷ (48 + c / 
 octal_by true c = omega arith
 octal_by false c = omega arith
 
-length-octals : (h : List ℕ) → length (flat_map octal_of h) ≤ 4 * length h
+pub length-octals : (h : List ℕ) → length (flat_map octal_of h) ≤ 4 * length h
 length-octals [] = omega arith
 length-octals (c ∷ h) =
     let here = octal_by (is_letter c) c in
@@ -79,7 +80,7 @@ pub length-script_before : length script_before ≡ 242
 unfolding script_before
 length-script_before = refl
 
-length-script_behind : length script_behind ≡ 51
+pub length-script_behind : length script_behind ≡ 51
 unfolding script_behind
 length-script_behind = refl
 

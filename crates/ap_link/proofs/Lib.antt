@@ -12,3 +12,6 @@ pub mod Copying
 pub mod Putting
 pub mod MakingFiles
 pub mod Delivering
+pub mod Quotes
+pub mod Statements
+pub mod ApeImages

@@ -12,7 +12,8 @@ use Rattle.ap_elf.specs.Fields.{header_of, entry_at, entries_of, entries_from}
 use Rattle.ap_link.specs.declared.field.Field.TheVariants.{Byte, Half, Word, Long}
 use Rattle.ap_link.specs.ElfWritten.{embedded_header, table_of, area_start}
 use Rattle.ap_link.specs.Delimiter.{delimiter, delimiter_number}
-use Rattle.ap_link.specs.Script.{statement_of, script_of, script_before, script_behind}
+use Rattle.ap_octal.specs.Statement.{statement_of}
+use Rattle.ap_link.specs.Script.{script_of, script_before, script_behind}
 use Rattle.ap_link.specs.Linked.{opening, body_of, closing, spaces, shell_text, block_of, area_of, linked_by, statement_place}
 use Rattle.ap_link.proofs.Spelled.{field_read}
 use Rattle.ap_link.proofs.Lengths.{length-header, length-body, length-opening, length-delimiter, length-block}
@@ -21,38 +22,47 @@ use Rattle.ap_link.proofs.Lengths.{length-header, length-body, length-opening, l
 abbrev pub loaded : (ℕ → ℕ) → ℕ → Entry → List ℕ
 loaded byte entry p = over (linked_by byte entry p) (embedded_header entry)
 
-pub length-loaded : (byte : ℕ → ℕ) (entry : ℕ) (p : Entry) → length (loaded byte entry p) ≡ 16384 + length (area_of byte p)
+pub length-linked : (byte : ℕ → ℕ) (entry : ℕ) (p : Entry) → length (linked_by byte entry p) ≡ 16384 + length (area_of byte p)
 unfolding linked_by
+length-linked byte entry p =
+    let block = length-block entry p in
+    length-append (block_of entry p) (area_of byte p) ∙ omega arith
+
+pub length-loaded : (byte : ℕ → ℕ) (entry : ℕ) (p : Entry) → length (loaded byte entry p) ≡ 16384 + length (area_of byte p)
 length-loaded byte entry p =
     let h = embedded_header entry in
     let w = linked_by byte entry p in
     let long : length h ≡ 64 = length-header entry in
-    let block = length-block entry p in
-    let whole : length w ≡ length (block_of entry p) + length (area_of byte p) = length-append (block_of entry p) (area_of byte p) in
+    let whole = length-linked byte entry p in
     let rest : length (drop (length h) w) ≡ length w - length h = length-drop (length h) w in
     length-append h (drop (length h) w) ∙ omega arith
 
 -- what stands past the block is the area's
-pub loaded-area : (byte : ℕ → ℕ) (entry : ℕ) (p : Entry) (j : ℕ) → slice_index (loaded byte entry p) (16384 + j) ≡ slice_index (area_of byte p) j
+pub linked-area : (byte : ℕ → ℕ) (entry : ℕ) (p : Entry) (j : ℕ) → slice_index (linked_by byte entry p) (16384 + j) ≡ slice_index (area_of byte p) j
 unfolding linked_by
+linked-area byte entry p j =
+    let past : 16384 + j - 16384 ≡ j = omega arith in
+    get_or-append_right (block_of entry p) (area_of byte p) 16384 (16384 + j) 0 (length-block entry p) (omega arith)
+    ∙ ap (λ i. get_or (area_of byte p) i 0) past
+
+-- also with its header over its first bytes
+pub loaded-area : (byte : ℕ → ℕ) (entry : ℕ) (p : Entry) (j : ℕ) → slice_index (loaded byte entry p) (16384 + j) ≡ slice_index (area_of byte p) j
 loaded-area byte entry p j =
     let h = embedded_header entry in
     let w = linked_by byte entry p in
     let long : length h ≡ 64 = length-header entry in
     let back : 64 + (16384 + j - 64) ≡ 16384 + j = omega arith in
-    let past : 16384 + j - 16384 ≡ j = omega arith in
     get_or-append_right h (drop (length h) w) 64 (16384 + j) 0 long (omega arith)
     ∙ ap (λ n. get_or (drop n w) (16384 + j - 64) 0) long
     ∙ get_or-drop 64 w (16384 + j - 64) 0
     ∙ ap (λ i. get_or w i 0) back
-    ∙ get_or-append_right (block_of entry p) (area_of byte p) 16384 (16384 + j) 0 (length-block entry p) (omega arith)
-    ∙ ap (λ i. get_or (area_of byte p) i 0) past
+    ∙ linked-area byte entry p j
 
 -- what stands in front of the table, and behind it
-abbrev before_table : Entry → List ℕ
+abbrev pub before_table : Entry → List ℕ
 before_table p = opening (delimiter_number (body_of p)) ++ zeros 10
 
-abbrev behind_table : (ℕ → ℕ) → ℕ → Entry → List ℕ
+abbrev pub behind_table : (ℕ → ℕ) → ℕ → Entry → List ℕ
 behind_table byte entry p =
     closing (delimiter_number (body_of p)) entry ++ ((spaces (8192 - length (shell_text entry p)) ++ zeros 8192) ++ area_of byte p)
 
@@ -63,7 +73,7 @@ text-parts entry p =
     ap (λ r. opening k ++ r) (append_assoc (zeros 10) (table_of p) (closing k entry))
     ∙ sym (append_assoc (opening k) (zeros 10) (table_of p ++ closing k entry))
 
-linked-parts : (byte : ℕ → ℕ) (entry : ℕ) (p : Entry) → linked_by byte entry p ≡ before_table p ++ (table_of p ++ behind_table byte entry p)
+pub linked-parts : (byte : ℕ → ℕ) (entry : ℕ) (p : Entry) → linked_by byte entry p ≡ before_table p ++ (table_of p ++ behind_table byte entry p)
 unfolding linked_by block_of
 linked-parts byte entry p =
     let k = delimiter_number (body_of p) in
@@ -73,7 +83,7 @@ linked-parts byte entry p =
     ∙ append_assoc (before_table p) (table_of p ++ closing k entry) (fill ++ area_of byte p)
     ∙ ap (λ t. before_table p ++ t) (append_assoc (table_of p) (closing k entry) (fill ++ area_of byte p))
 
-length-before : (p : Entry) → length (before_table p) ≡ 96
+pub length-before : (p : Entry) → length (before_table p) ≡ 96
 length-before p =
     let k = delimiter_number (body_of p) in
     let a = length-append (opening k) (zeros 10) in
@@ -250,12 +260,12 @@ table_there byte entry p fits =
     ∙ ap (λ e. e ∷ []) (entry_there byte entry p fits)
 
 -- what stands in front of the script's statement, and behind it
-abbrev before_statement : Entry → List ℕ
+abbrev pub before_statement : Entry → List ℕ
 before_statement p =
     let k = delimiter_number (body_of p) in
     opening k ++ (body_of p ++ (codes "\n" ++ (delimiter k ++ (codes "\n" ++ script_before))))
 
-length-before_statement : (p : Entry) → length (before_statement p) ≡ statement_place
+pub length-before_statement : (p : Entry) → length (before_statement p) ≡ statement_place
 length-before_statement p =
     let k = delimiter_number (body_of p) in
     let a = length-append (opening k) (body_of p ++ (codes "\n" ++ (delimiter k ++ (codes "\n" ++ script_before)))) in
@@ -277,7 +287,7 @@ closing-parts k entry =
     ∙ sym (append_assoc (delimiter k) (codes "\n" ++ script_before) s))
     ∙ sym (append_assoc (codes "\n") (delimiter k ++ (codes "\n" ++ script_before)) s)
 
-statement-parts : (byte : ℕ → ℕ) (entry : ℕ) (p : Entry) → linked_by byte entry p ≡
+pub statement-parts : (byte : ℕ → ℕ) (entry : ℕ) (p : Entry) → linked_by byte entry p ≡
     before_statement p ++ (statement_of (embedded_header entry) ++ (script_behind ++ ((spaces (8192 - length (shell_text entry p)) ++ zeros 8192) ++ area_of byte p)))
 unfolding linked_by block_of shell_text
 statement-parts byte entry p =

@@ -1,5 +1,5 @@
 -- What the linker answers.
-use Rattle.std.specs.Prelude.{◌≡◌, ◌⊎◌, ℕ, List, take, Vec, Result, Ok, Err, Some, None}
+use Rattle.std.specs.Prelude.{◌≡◌, ◌⊎◌, ◌↔◌, ℕ, List, take, Vec, Result, Ok, Err, Some, None}
 use Rattle.std.specs.declared.alloc.Global.{Global}
 use Rattle.ap_fields.specs.Bytes.{Holds, over}
 use Rattle.ap_files.specs.Files.{FileMap, FileState, KeepsCounts, with_file}
@@ -17,7 +17,9 @@ use Rattle.ap_link.specs.declared.copy.CopyFault.{CopyFault}
 use Rattle.ap_link.specs.declared.copy.CopyFault.TheVariants.{Read, Write}
 use Rattle.ap_elf.specs.declared.types.Entry.{Entry}
 use Rattle.ap_link.specs.ElfWritten.{embedded_header}
-use Rattle.ap_link.specs.Script.{statement_of}
+use Rattle.ap_octal.specs.Embedded.{Opens}
+use Rattle.ap_octal.specs.Statement.{statement_of}
+use Rattle.ap_loader.specs.ApeReading.{ape_reading}
 use Rattle.ap_link.specs.Linked.{linked_of, linked_by, statement_place}
 use Rattle.ap_link.specs.Same.{Same}
 
@@ -25,12 +27,15 @@ use Rattle.ap_link.specs.Same.{Same}
 abbrev pub embedded_header_of : List ℕ → List ℕ
 embedded_header_of input = embedded_header (header_of input).e_entry
 
--- What a linked file is, and what stands of it: the script's statement prints the embedded header, and the file with that
--- header over its first bytes is read as the input's image.
+-- What a linked file is, and what stands of it: the script's statement prints the embedded header, and `printf '` stands
+-- nowhere else in the window; the file with that header over its first bytes is read as the input's image, and so is the
+-- file as an APE loader reads it.
 pub record IsLinked (input file : List ℕ) : Type 0 where
   pub bytes : file ≡ linked_of input
   pub statement : Holds file statement_place (statement_of (embedded_header_of input))
+  pub only : (k : ℕ) → Opens file k ↔ (k ≡ statement_place)
   pub image : Same 4096 (bytes_in input) (loads_in (entries_of input)) (header_of input).e_entry (elf_reading 62 4096 (over file (embedded_header_of input)))
+  pub ape : Same 4096 (bytes_in input) (loads_in (entries_of input)) (header_of input).e_entry (ape_reading 62 4096 file)
 
 -- the linked file where all rules hold, else the fault of the first that doesn't, unless memory runs out
 abbrev pub LinkAnswers : Result (Vec ℕ Global) LinkFault → List ℕ → Type 0

@@ -1,18 +1,7 @@
 -- The script of a linked file for x86-64 Linux (POSIX.1 Shell Command Language): it hands the file to an APE loader where
 -- the system has one, and else copies it, writes the embedded ELF header over the copy's first bytes and starts the copy.
-use Rattle.std.specs.Prelude.{ℕ, ◌+◌, ◌/◌, ◌%◌, ◌&&◌, ◌||◌, nat_le, if◌then◌else◌, Bool, List, [], ◌∷◌, ◌++◌, codes}
-use Rattle.std.specs.List.{flat_map}
-
-abbrev pub is_letter : ℕ → Bool
-is_letter c = (nat_le 65 c && nat_le c 90) || (nat_le 97 c && nat_le c 122)
-
--- a letter itself; any other byte as a backslash and three octal digits
-abbrev pub octal_of : ℕ → List ℕ
-octal_of c = if is_letter c then c ∷ [] else 92 ∷ (48 + c / 64) ∷ (48 + c / 8 % 8) ∷ (48 + c % 8) ∷ []
-
--- the canonical statement, which prints a header's bytes (APE specification; POSIX `printf`)
-unfoldable pub statement_of : List ℕ → List ℕ
-statement_of header = codes "printf '" ++ (flat_map octal_of header ++ codes "'")
+use Rattle.std.specs.Prelude.{ℕ, List, ◌++◌, codes}
+use Rattle.ap_octal.specs.Statement.{statement_of}
 
 -- the script up to its statement
 unfoldable pub script_before : List ℕ

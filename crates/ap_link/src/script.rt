@@ -1,7 +1,8 @@
 // The script, and the statement in it that prints a header.
 ghost use Rattle.std.specs.Prelude.{◌≡◌, ◌++◌, OnOk};
-ghost use Rattle.ap_link.specs.Script as script;
-ghost use Rattle.ap_link.specs.Script.{octal_of, statement_of, script_before, script_behind, script_of};
+ghost use Rattle.ap_octal.specs.Statement as statement;
+ghost use Rattle.ap_octal.specs.Statement.{octal_of, statement_of};
+ghost use Rattle.ap_link.specs.Script.{script_before, script_behind, script_of};
 
 use std::alloc::AllocError;
 
@@ -36,7 +37,7 @@ fn push_behind(out: &mut Vec<u8>) -> Result<(), AllocError>
     out.extend_from_slice(BEHIND)
 }
 
-#[tactic(auto, using(std::proofs::Common::append_assoc), unfolding(crate::specs::Script::statement_of))]
+#[tactic(auto, using(std::proofs::Common::append_assoc), unfolding(ap_octal::specs::Statement::statement_of))]
 fn push_statement(out: &mut Vec<u8>, header: &[u8]) -> Result<(), AllocError>
     ensures { OnOk result (out.new.items ≡ out.old.items ++ statement_of header.now) }
 {
@@ -58,7 +59,7 @@ fn push_octal(out: &mut Vec<u8>, c: u8) -> Result<(), AllocError>
 }
 
 fn is_letter(c: u8) -> bool
-    ensures { result ≡ script.is_letter c }
+    ensures { result ≡ statement.is_letter c }
 {
     (b'A' <= c && c <= b'Z') || (b'a' <= c && c <= b'z')
 }
