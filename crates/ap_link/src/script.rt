@@ -1,9 +1,9 @@
 // The script, and the statement in it that prints a header.
-ghost use Rattle.std.specs.Prelude.{◌≡◌, ◌++◌, OnOk};
-ghost use Rattle.ap_octal.specs.Statement as statement;
-ghost use Rattle.ap_octal.specs.Statement.{octal_of, statement_of};
+ghost use Rattle.std.specs.Prelude.{◌≡◌, ◌++◌, length, OnOk};
+ghost use Rattle.ap_octal.specs.Statement.{statement_of};
 ghost use Rattle.ap_link.specs.Script.{script_before, script_behind, script_of};
 
+use ap_octal::write_statement;
 use std::alloc::AllocError;
 
 const BEFORE: &[u8] = b"if command -v ape >/dev/null 2>&1; then\nexec ape \"$0\" \"$@\"\nfi\n\
@@ -16,6 +16,7 @@ const BEHIND: &[u8] = b" 1<>\"$t\" || exit 124\nexec \"$t\" \"$@\"\nfi\nfi\nexit
 /// Appends the script whose statement prints the header.
 #[tactic(auto, using(std::proofs::Common::append_assoc), unfolding(crate::specs::Script::script_of))]
 pub fn push_script(out: &mut Vec<u8>, header: &[u8]) -> Result<(), AllocError>
+    requires { length header.now ≡ 64 }
     ensures { OnOk result (out.new.items ≡ out.old.items ++ script_of header.now) }
 {
     push_before(out)?;
@@ -37,29 +38,14 @@ fn push_behind(out: &mut Vec<u8>) -> Result<(), AllocError>
     out.extend_from_slice(BEHIND)
 }
 
-#[tactic(auto, using(std::proofs::Common::append_assoc), unfolding(ap_octal::specs::Statement::statement_of))]
 fn push_statement(out: &mut Vec<u8>, header: &[u8]) -> Result<(), AllocError>
+    requires { length header.now ≡ 64 }
     ensures { OnOk result (out.new.items ≡ out.old.items ++ statement_of header.now) }
 {
-    out.extend_from_slice(b"printf '")?;
-    for c in header {
-        push_octal(out, *c)?;
-    }
-    out.extend_from_slice(b"'")
-}
-
-fn push_octal(out: &mut Vec<u8>, c: u8) -> Result<(), AllocError>
-    ensures { OnOk result (out.new.items ≡ out.old.items ++ octal_of c) }
-{
-    if is_letter(c) {
-        out.extend_from_slice(&[c])
-    } else {
-        out.extend_from_slice(&[b'\\', b'0' + c / 64, b'0' + c / 8 % 8, b'0' + c % 8])
-    }
-}
-
-fn is_letter(c: u8) -> bool
-    ensures { result ≡ statement.is_letter c }
-{
-    (b'A' <= c && c <= b'Z') || (b'a' <= c && c <= b'z')
+    let Some(header) = header.first_chunk() else {
+        unreachable!()
+    };
+    let mut text = [0; 265];
+    let count = write_statement(&mut text, 0, header);
+    out.extend_from_slice(&text[..count])
 }
