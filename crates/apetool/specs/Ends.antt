@@ -7,23 +7,27 @@ use Rattle.ap_link.specs.declared.stream.LinkEnd.TheVariants as end
 use Rattle.ap_link.specs.Answers.{LinksFile}
 use Rattle.apetool.specs.Words.{LinkNames}
 use Rattle.apetool.specs.declared.end.Cause.{Cause}
-use Rattle.apetool.specs.declared.end.Cause.TheVariants.{Done, Refused, Usage, ReadFault, WriteFault, NoMemory}
+use Rattle.apetool.specs.declared.end.Cause.TheVariants.{Done, Refused, Unread, Usage, ReadFault, WriteFault, OutFault, NoMemory}
 
 abbrev pub status_of : Cause → ℕ
 status_of Done = 0
 status_of (Refused fault) = 1
+status_of (Unread fault) = 1
 status_of Usage = 2
 status_of ReadFault = 3
 status_of WriteFault = 4
+status_of OutFault = 4
 status_of NoMemory = 5
 
 -- how a link ends, by its cause
 abbrev pub LinkEnds : FileState → FileState → LinkNames → Cause → Type 0
 LinkEnds old new names Done = LinksFile old new names.input names.out (Ok tt)
 LinkEnds old new names (Refused fault) = LinksFile old new names.input names.out (Err (end.Rule fault))
+LinkEnds old new names (Unread fault) = ⊥
 LinkEnds old new names Usage = ⊥
 LinkEnds old new names ReadFault = LinksFile old new names.input names.out (Err end.ReadFault)
 LinkEnds old new names WriteFault = LinksFile old new names.input names.out (Err end.WriteFault)
+LinkEnds old new names OutFault = ⊥
 LinkEnds old new names NoMemory = LinksFile old new names.input names.out (Err end.NoMemory)
 
 -- how a run ends, by the names in its words

@@ -2,8 +2,10 @@
 ghost use Rattle.std.specs.Prelude.{◌≡◌, ◌≢◌};
 ghost use Rattle.apetool.specs.Words.{names_in, texts_of};
 ghost use Rattle.apetool.specs.Ends.{LinkEnds, RunEnds, IsComplete, status_of};
+ghost use Rattle.apetool.specs.Lines.{line_of};
+ghost use Rattle.apetool.specs.Prints.{Reports};
 
-use crate::end::{Cause, End};
+use crate::end::{Cause, End, end_by};
 use crate::words::read_words;
 use ap_files::{Files, Sink};
 use ap_link::{LinkEnd, link_file};
@@ -11,25 +13,22 @@ use std::alloc::Global;
 
 /// Does what the words say over these files, and answers how it ended. `words` doesn't have the program's name.
 ///
-/// Nothing is written to `out` or `err` yet.
+/// Where the status isn't 0, one line on `err` says why. Nothing is written to `out` yet.
 pub fn run<F: Files, O: Sink, E: Sink>(
     alloc: Global,
     words: &[String],
     files: &mut F,
     _out: &mut O,
-    _err: &mut E,
+    err: &mut E,
 ) -> End
     ensures status { result.status ≡ status_of result.cause }
     ensures ends { RunEnds (F.state files.old) (F.state files.new) (names_in (texts_of words.now)) result.cause }
     ensures complete { IsComplete (F.state files.old) (F.state files.new) (names_in (texts_of words.now)) result.cause }
     ensures out { O.state _out.new ≡ O.state _out.old }
-    ensures err { E.state _err.new ≡ E.state _err.old }
+    ensures err { Reports (E.state err.old) (E.state err.new) (line_of result.cause) }
 {
     let cause = obey(alloc, words, files);
-    End {
-        status: status(&cause),
-        cause,
-    }
+    end_by(err, cause)
 }
 
 fn obey<F: Files>(alloc: Global, words: &[String], files: &mut F) -> Cause
@@ -51,18 +50,5 @@ fn link<F: Files>(alloc: Global, files: &mut F, out: &str, input: &str) -> Cause
         Err(LinkEnd::ReadFault) => Cause::ReadFault,
         Err(LinkEnd::WriteFault) => Cause::WriteFault,
         Err(LinkEnd::NoMemory) => Cause::NoMemory,
-    }
-}
-
-fn status(cause: &Cause) -> u8
-    ensures { result ≡ status_of cause.now }
-{
-    match cause {
-        Cause::Done => 0,
-        Cause::Refused(_) => 1,
-        Cause::Usage => 2,
-        Cause::ReadFault => 3,
-        Cause::WriteFault => 4,
-        Cause::NoMemory => 5,
     }
 }

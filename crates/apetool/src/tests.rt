@@ -1,6 +1,7 @@
 // The command over files in memory.
 mod example;
 mod failures;
+mod lines;
 mod sized;
 
 use crate::end::{Cause, End};
