@@ -2,9 +2,14 @@
 #![tactic(auto)]
 
 mod end;
+mod fetch;
+mod format;
 mod line;
+mod options;
 mod print;
 mod run;
+mod show;
+mod text;
 mod words;
 
 use crate::end::{Cause, end_by};

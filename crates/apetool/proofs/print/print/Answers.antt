@@ -1,7 +1,5 @@
-use Rattle.std.proofs.Common.{ap, ◌∙◌, refl, arith, subst, length, take}
-use Rattle.std.proofs.lemmas.List.{take_all}
-use Rattle.apetool.specs.Prints.{Gains}
-use Rattle.apetool.proofs.Printing.{gains-nothing, written-below, written-more, written-broken}
+use Rattle.std.proofs.Common.{◌∙◌, refl, arith}
+use Rattle.apetool.proofs.Printing.{gains-nothing, written-below, written-more}
 use Rattle.apetool.proofs.print.print.Goals as goal
 
 pub loop-at-init : goal.loop-at-init
