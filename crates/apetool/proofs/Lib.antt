@@ -1,1 +1,6 @@
 pub mod Complete
+pub mod Printing
+pub mod Fetching
+pub mod Digits
+pub mod GivenWords
+pub mod Showing

@@ -1,42 +1,46 @@
 // A run of the program.
 ghost use Rattle.std.specs.Prelude.{◌≡◌, ◌≢◌};
-ghost use Rattle.apetool.specs.Words.{names_in, texts_of};
+ghost use Rattle.apetool.specs.Words.{texts_of};
 ghost use Rattle.apetool.specs.Ends.{LinkEnds, RunEnds, IsComplete, status_of};
+ghost use Rattle.apetool.specs.Lines.{line_of};
+ghost use Rattle.apetool.specs.Prints.{Reports};
 
-use crate::end::{Cause, End};
-use crate::words::read_words;
+use crate::end::{Cause, End, end_by};
+use crate::options::read_view;
+use crate::show::show;
+use crate::words::read_link;
 use ap_files::{Files, Sink};
 use ap_link::{LinkEnd, link_file};
 use std::alloc::Global;
 
 /// Does what the words say over these files, and answers how it ended. `words` doesn't have the program's name.
 ///
-/// Nothing is written to `out` or `err` yet.
+/// `load` and `map` print a plan on `out`, and a link prints nothing there. Where the status isn't 0, one line on `err` says
+/// why.
 pub fn run<F: Files, O: Sink, E: Sink>(
     alloc: Global,
     words: &[String],
     files: &mut F,
-    _out: &mut O,
-    _err: &mut E,
+    out: &mut O,
+    err: &mut E,
 ) -> End
     ensures status { result.status ≡ status_of result.cause }
-    ensures ends { RunEnds (F.state files.old) (F.state files.new) (names_in (texts_of words.now)) result.cause }
-    ensures complete { IsComplete (F.state files.old) (F.state files.new) (names_in (texts_of words.now)) result.cause }
-    ensures out { O.state _out.new ≡ O.state _out.old }
-    ensures err { E.state _err.new ≡ E.state _err.old }
+    ensures ends { RunEnds (F.state files.old) (F.state files.new) (O.state out.old) (O.state out.new) (texts_of words.now) result.cause }
+    ensures complete { IsComplete (F.state files.old) (F.state files.new) (O.state out.old) (O.state out.new) (texts_of words.now) result.cause }
+    ensures err { Reports (E.state err.old) (E.state err.new) (line_of result.cause) }
 {
-    let cause = obey(alloc, words, files);
-    End {
-        status: status(&cause),
-        cause,
-    }
+    let cause = obey(alloc, words, files, out);
+    end_by(err, cause)
 }
 
-fn obey<F: Files>(alloc: Global, words: &[String], files: &mut F) -> Cause
-    ensures { RunEnds (F.state files.old) (F.state files.new) (names_in (texts_of words.now)) result }
+fn obey<F: Files, O: Sink>(alloc: Global, words: &[String], files: &mut F, out: &mut O) -> Cause
+    ensures { RunEnds (F.state files.old) (F.state files.new) (O.state out.old) (O.state out.new) (texts_of words.now) result }
 {
-    match read_words(words) {
-        Some(names) => link(alloc, files, names.out, names.input),
+    if let Some(names) = read_link(words) {
+        return link(alloc, files, names.out, names.input);
+    }
+    match read_view(words) {
+        Some(view) => show(alloc, files, out, &view.format, view.file),
         None => Cause::Usage,
     }
 }
@@ -51,18 +55,5 @@ fn link<F: Files>(alloc: Global, files: &mut F, out: &str, input: &str) -> Cause
         Err(LinkEnd::ReadFault) => Cause::ReadFault,
         Err(LinkEnd::WriteFault) => Cause::WriteFault,
         Err(LinkEnd::NoMemory) => Cause::NoMemory,
-    }
-}
-
-fn status(cause: &Cause) -> u8
-    ensures { result ≡ status_of cause.now }
-{
-    match cause {
-        Cause::Done => 0,
-        Cause::Refused(_) => 1,
-        Cause::Usage => 2,
-        Cause::ReadFault => 3,
-        Cause::WriteFault => 4,
-        Cause::NoMemory => 5,
     }
 }

@@ -1,7 +1,9 @@
 // The command over files in memory.
 mod example;
 mod failures;
+mod lines;
 mod sized;
+mod views;
 
 use crate::end::{Cause, End};
 use crate::run::run;
@@ -65,7 +67,7 @@ static OTHER_WORDS: [&[&str]; 8] = [
     &["link", "in"],
     &["link", "--systems", "linux", "-o", "in", "in"],
     &["link", "--systems", "linux,beos", "-o", "out", "in"],
-    &["load", "--systems", "linux", "-o", "out", "in"],
+    &["load", "--systems", "linux", "in"],
     &["link", "-o", "out", "--systems", "linux", "in"],
     &["link", "--systems", "linux", "-o", "out", "in", "in"],
 ];

@@ -13,7 +13,7 @@ pub struct Link<'a> {
 }
 
 /// The names in `link --systems linux -o OUT IN`, where OUT isn't IN; any other words are none.
-pub fn read_words(words: &[String]) -> Option<Link<'_>>
+pub fn read_link(words: &[String]) -> Option<Link<'_>>
     ensures apart { IfSome result (λ l. l.input.now ≢ l.out.now) }
     ensures names { option_map (λ l. record { out = l.out.now; input = l.input.now }) result ≡ names_in (texts_of words.now) }
 {

@@ -89,7 +89,8 @@ pub fn edited(rt: &impl Abort, alloc: Global, edits: &[Edit], length: usize) -> 
     file
 }
 
-fn put(file: &mut [u8], at: usize, bytes: &[u8]) {
+/// Writes bytes from a place on, as far as the file goes.
+pub fn put(file: &mut [u8], at: usize, bytes: &[u8]) {
     for (place, byte) in file.iter_mut().skip(at).zip(bytes) {
         *place = *byte;
     }

@@ -1,7 +1,8 @@
 // An input of which only the size may be asked.
 ghost use Rattle.ap_files.specs.Machine.{no_faults, untold_files};
 
-use super::{assert_ends, refused};
+use super::{assert_ends, obey, refused};
+use crate::end::{Cause, ReadingFault};
 use ap_files::{Failed, Files};
 
 #[derive(Drop)]
@@ -45,5 +46,17 @@ fn of_a_large_input_only_the_size_is_asked(rt: HostRuntime) {
         others: 0,
     };
     assert_ends(&rt, rt.alloc(), &mut files, 1, refused((1, 0, 268435457)));
+    assert_eq!(rt; files.others, 0);
+}
+
+#[test]
+fn of_a_file_that_is_too_large_to_show_only_the_size_is_asked(rt: HostRuntime) {
+    let mut files = SizeAlone {
+        size: 1073741825,
+        others: 0,
+    };
+    let end = obey(&rt, rt.alloc(), &mut files, &["load", "a"]);
+    let large = ReadingFault::Large { size: 1073741825 };
+    assert!(rt; end.status == 1 && end.cause == Cause::Unread(large));
     assert_eq!(rt; files.others, 0);
 }
