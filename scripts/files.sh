@@ -1,5 +1,6 @@
 #!/usr/bin/env bash
-# Tries what the program does with the machine's files: the outputs, and the inputs that are outputs by another name.
+# Tries what the program does with the machine's files: the outputs, the inputs that are outputs by another name, and what
+# is printed.
 # Usage: scripts/files.sh [APETOOL]
 . "$(dirname "$0")/lib.sh"
 
@@ -140,6 +141,31 @@ check 'a pipe takes the linked file' ends 0 link pipe in
 wait "$!"
 check 'it is what comes out of the pipe' is_linked piped
 check 'it stays a pipe' [ -p pipe ]
+
+begin shown
+shows() { # STATUS TEXT LINE COMMAND..
+    ends "$1" "${@:4}" && holds "$work/printed" "$2" && holds "$work/errors" "$3"
+}
+plan() { # BACKED PLACE
+    printf 'entry 0000000000400078\n0000000000400000 0000000000002000 %s %s r-x' "$1" "$2"
+}
+check 'map prints the plan of the input' \
+    shows 0 "$(plan 0000000000001400 0000000000000000)"$'\n' '' "$apetool" map --as elf in
+check 'load prints that of the linked file' \
+    shows 0 "$(plan 0000000000002000 0000000000004000)"$'\n' '' "$apetool" load "$work/linked"
+check 'a file of another format ends with 1, and a line says why' \
+    shows 1 '' $'apetool: ape NoMagic item 0 value 0\n' "$apetool" load in
+check 'a missing file ends with 3' shows 3 '' $'apetool: cannot read\n' "$apetool" load missing
+if [ -c /dev/full ]; then
+    load_to_full() {
+        "$apetool" load "$work/linked" >/dev/full
+    }
+    check 'a plan that cannot be printed ends with 4' shows 4 '' $'apetool: cannot print\n' load_to_full
+    load_with_full_errors() {
+        "$apetool" load missing 2>/dev/full
+    }
+    check 'a line that cannot be printed changes no status' shows 3 '' '' load_with_full_errors
+fi
 
 begin opened
 if is_there strace && strace -o /dev/null true 2>"$work/errors"; then
