@@ -9,7 +9,10 @@ use Rattle.apetool.specs.Words.{LinkNames, names_in}
 use Rattle.apetool.specs.Options.{View, view_in}
 use Rattle.apetool.specs.Formats.{text_in}
 use Rattle.apetool.specs.Shows.{Ends}
-use Rattle.apetool.specs.Ends.{LinkEnds, EndsBy, RunEnds, CompleteBy, IsComplete, Stands}
+use Rattle.apetool.specs.Dumps.{DumpEnds, dumped_in}
+use Rattle.apetool.specs.declared.format.Format.{Format}
+use Rattle.ap_files.specs.Reads as reads
+use Rattle.apetool.specs.Ends.{LinkEnds, AnswersBy, ViewAnswers, ViewEnds, EndsBy, RunEnds, CompleteBy, IsComplete, Stands}
 use Rattle.apetool.specs.declared.end.ReadingFault.{ReadingFault}
 use Rattle.apetool.specs.declared.end.Cause.{Cause}
 use Rattle.apetool.specs.declared.end.Cause.TheVariants.{Done, Refused, Unread, Usage, ReadFault, WriteFault, OutFault, NoMemory}
@@ -42,37 +45,52 @@ by_cause old new names WriteFault m b h r w k g = absurd (no_rise _ _ w h.0.rose
 by_cause old new names OutFault m b h r w k g = absurd h
 by_cause old new names NoMemory m b h r w k g = (λ e. inr refl, λ f e. inr refl)
 
-view_answers : SinkState → SinkState → View → Cause → List ℕ → Type 0
-view_answers before after view cause b =
-    ((fault : ReadingFault) → text_in view.format b ≡ Err fault → (cause ≡ Unread fault) ⊎ (cause ≡ NoMemory))
-    × ((text : List ℕ) → text_in view.format b ≡ Ok text → Stands before.faults after.faults → (cause ≡ Done) ⊎ (cause ≡ NoMemory))
-
-ok_err : {t : List ℕ} {f : ReadingFault} {r : Result (List ℕ) ReadingFault} → r ≡ Ok t → r ≡ Err f → ⊥
+ok_err : {T : Type 0} {t : T} {f : ReadingFault} {r : Result T ReadingFault} → r ≡ Ok t → r ≡ Err f → ⊥
 ok_err e h = cc
 
-unread_same : {f g : ReadingFault} {r : Result (List ℕ) ReadingFault} → r ≡ Err f → r ≡ Err g → Unread f ≡ Unread g
+unread_same : {T : Type 0} {f g : ReadingFault} {r : Result T ReadingFault} → r ≡ Err f → r ≡ Err g → Unread f ≡ Unread g
 unread_same e h = cc
 
-view_by_cause : (old new : FileState) (before after : SinkState) (view : View) (cause : Cause) (m : FileMap) (b : List ℕ) → Ends old new before after view.format view.file cause → Stands old.read_faults new.read_faults
-    → old.kept ≡ Some m → map.get m view.file ≡ Some b → view_answers before after view cause b
-unfolding view_answers
-view_by_cause old new before after view Done m b h r k g =
-    let shown = told_of old.kept view.file m b h.1.2 k g in (λ f e. absurd (ok_err shown e), λ t e s. inl refl)
-view_by_cause old new before after view (Unread f) m b h r k g =
-    let shown = told_of old.kept view.file m b h.2 k g in (λ f' e. inl (unread_same shown e), λ t e s. absurd (ok_err e shown))
-view_by_cause old new before after view OutFault m b h r k g =
-    let shown = told_of old.kept view.file m b h.1.2 k g in (λ f e. absurd (ok_err shown e), λ t e s. absurd (no_rise _ _ s h.1.1.rose))
-view_by_cause old new before after view ReadFault m b h r k g =
-    absurd (elim h.0.cause [ inl rose ↦ no_rise _ _ r rose | inr gone ↦ not_some (sym (gone.1 m k) ∙ g) ])
-view_by_cause old new before after view NoMemory m b h r k g = (λ f e. inr refl, λ t e s. inr refl)
-view_by_cause old new before after view (Refused f) m b h r k g = absurd h
-view_by_cause old new before after view Usage m b h r k g = absurd h
-view_by_cause old new before after view WriteFault m b h r k g = absurd h
+unread_by : (old new : FileState) (name : List ℕ) (m : FileMap) (b : List ℕ) → reads.Unread old new name → Stands old.read_faults new.read_faults → old.kept ≡ Some m → map.get m name ≡ Some b → ⊥
+unread_by old new name m b h r k g = elim h.cause [ inl rose ↦ no_rise _ _ r rose | inr gone ↦ not_some (sym (gone.1 m k) ∙ g) ]
+
+shown_by : (old new : FileState) (before after : SinkState) (format : Format) (name : List ℕ) (cause : Cause) (m : FileMap) (b : List ℕ) → Ends old new before after format name cause → Stands old.read_faults new.read_faults
+    → old.kept ≡ Some m → map.get m name ≡ Some b → AnswersBy before after cause (text_in format b)
+shown_by old new before after format name Done m b h r k g =
+    let shown = told_of old.kept name m b h.1.2 k g in (λ f e. absurd (ok_err shown e), λ t e s. inl refl)
+shown_by old new before after format name (Unread f) m b h r k g =
+    let shown = told_of old.kept name m b h.2 k g in (λ f' e. inl (unread_same shown e), λ t e s. absurd (ok_err e shown))
+shown_by old new before after format name OutFault m b h r k g =
+    let shown = told_of old.kept name m b h.1.2 k g in (λ f e. absurd (ok_err shown e), λ t e s. absurd (no_rise _ _ s h.1.1.rose))
+shown_by old new before after format name ReadFault m b h r k g = absurd (unread_by old new name m b h.0 r k g)
+shown_by old new before after format name NoMemory m b h r k g = (λ f e. inr refl, λ t e s. inr refl)
+shown_by old new before after format name (Refused f) m b h r k g = absurd h
+shown_by old new before after format name Usage m b h r k g = absurd h
+shown_by old new before after format name WriteFault m b h r k g = absurd h
+
+dumped_so : (old new : FileState) (before after : SinkState) (format : Format) (name image : List ℕ) (cause : Cause) (m : FileMap) (b : List ℕ) → DumpEnds old new before after format name image cause
+    → Stands old.read_faults new.read_faults → Stands old.write_faults new.write_faults → old.kept ≡ Some m → map.get m name ≡ Some b → AnswersBy before after cause (dumped_in format b)
+dumped_so old new before after format name image Done m b h r w k g =
+    let made = told_of old.kept name m b h.3 k g in (λ f e. absurd (ok_err made e), λ t e s. inl refl)
+dumped_so old new before after format name image OutFault m b h r w k g =
+    let made = told_of old.kept name m b h.3 k g in (λ f e. absurd (ok_err made e), λ t e s. absurd (no_rise _ _ s h.2.rose))
+dumped_so old new before after format name image WriteFault m b h r w k g = absurd (no_rise _ _ w h.1.rose)
+dumped_so old new before after format name image (Unread f) m b h r w k g =
+    let made = told_of old.kept name m b h.2 k g in (λ f' e. inl (unread_same made e), λ t e s. absurd (ok_err e made))
+dumped_so old new before after format name image ReadFault m b h r w k g = absurd (unread_by old new name m b h.0 r k g)
+dumped_so old new before after format name image NoMemory m b h r w k g = (λ f e. inr refl, λ t e s. inr refl)
+dumped_so old new before after format name image (Refused f) m b h r w k g = absurd h
+dumped_so old new before after format name image Usage m b h r w k g = absurd h
+
+view_by : (old new : FileState) (before after : SinkState) (format : Format) (name : List ℕ) (dump : Option (List ℕ)) (cause : Cause) (m : FileMap) (b : List ℕ) → ViewEnds old new before after format name dump cause
+    → Stands old.read_faults new.read_faults → Stands old.write_faults new.write_faults → old.kept ≡ Some m → map.get m name ≡ Some b → ViewAnswers before after cause format dump b
+view_by old new before after format name None cause m b h r w k g = shown_by old new before after format name cause m b h r k g
+view_by old new before after format name (Some image) cause m b h r w k g = dumped_so old new before after format name image cause m b h r w k g
 
 complete_by : (old new : FileState) (before after : SinkState) (names : Option LinkNames) (view : Option View) (cause : Cause) → EndsBy old new before after names view cause → CompleteBy old new before after names view cause
-unfolding answers view_answers
+unfolding answers
 complete_by old new before after (Some names) view cause h = λ r w m b k g. by_cause old new names cause m b h.0 r w k g
-complete_by old new before after None (Some view) cause h = λ r w m b k g. view_by_cause old new before after view cause m b h r k g
+complete_by old new before after None (Some view) cause h = λ r w m b k g. view_by old new before after view.format view.file view.dump cause m b h r w k g
 complete_by old new before after None None cause h = tt
 
 pub complete : (old new : FileState) (before after : SinkState) (words : List (List ℕ)) (cause : Cause) → RunEnds old new before after words cause → IsComplete old new before after words cause

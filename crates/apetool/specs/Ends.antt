@@ -1,5 +1,5 @@
 -- How a run ends.
-use Rattle.std.specs.Prelude.{◌≡◌, ℕ, ◌^◌, ◌-◌, ◌<◌, ◌⊎◌, List, Ok, Err, Some, None, Option}
+use Rattle.std.specs.Prelude.{◌≡◌, ℕ, ◌^◌, ◌-◌, ◌<◌, ◌⊎◌, List, Result, Ok, Err, Some, None, Option}
 use Rattle.ap_files.specs.Files.{FileState, ForFile}
 use Rattle.ap_check.specs.declared.fault.Fault.{Fault}
 use Rattle.ap_check.specs.Rules.{first_fault_of}
@@ -10,6 +10,8 @@ use Rattle.apetool.specs.Words.{LinkNames, names_in}
 use Rattle.apetool.specs.Options.{View, view_in}
 use Rattle.apetool.specs.Formats.{text_in}
 use Rattle.apetool.specs.Shows.{Ends}
+use Rattle.apetool.specs.Dumps.{DumpEnds, dumped_in}
+use Rattle.apetool.specs.declared.format.Format.{Format}
 use Rattle.apetool.specs.declared.end.ReadingFault.{ReadingFault}
 use Rattle.apetool.specs.declared.end.Cause.{Cause}
 use Rattle.apetool.specs.declared.end.Cause.TheVariants.{Done, Refused, Unread, Usage, ReadFault, WriteFault, OutFault, NoMemory}
@@ -35,10 +37,15 @@ LinkEnds old new names WriteFault = LinksFile old new names.input names.out (Err
 LinkEnds old new names OutFault = ⊥
 LinkEnds old new names NoMemory = LinksFile old new names.input names.out (Err end.NoMemory)
 
+-- how a view ends, without an image file or with one
+abbrev pub ViewEnds : FileState → FileState → SinkState → SinkState → Format → List ℕ → Option (List ℕ) → Cause → Type 0
+ViewEnds old new before after format file None cause = Ends old new before after format file cause
+ViewEnds old new before after format file (Some image) cause = DumpEnds old new before after format file image cause
+
 -- how a run ends, by the link or the view that its words are; a link prints nothing
 abbrev pub EndsBy : FileState → FileState → SinkState → SinkState → Option LinkNames → Option View → Cause → Type 0
 EndsBy old new before after (Some names) view cause = LinkEnds old new names cause × (after ≡ before)
-EndsBy old new before after None (Some view) cause = Ends old new before after view.format view.file cause
+EndsBy old new before after None (Some view) cause = ViewEnds old new before after view.format view.file view.dump cause
 EndsBy old new before after None None cause = (cause ≡ Usage) × (new ≡ old) × (after ≡ before)
 
 abbrev pub RunEnds : FileState → FileState → SinkState → SinkState → List (List ℕ) → Cause → Type 0
@@ -56,13 +63,22 @@ LinkComplete old new names cause =
     (first_fault_of 1 input ≡ None → (cause ≡ Done) ⊎ (cause ≡ NoMemory))
     × ((fault : Fault) → first_fault_of 1 input ≡ Some fault → (cause ≡ Refused fault) ⊎ (cause ≡ NoMemory)))
 
+-- an answer comes exactly where a file is refused, and the work is done where it isn't and no print failed
+abbrev pub AnswersBy : {T : Type 0} → SinkState → SinkState → Cause → Result T ReadingFault → Type 0
+AnswersBy {T} before after cause answer =
+    ((fault : ReadingFault) → answer ≡ Err fault → (cause ≡ Unread fault) ⊎ (cause ≡ NoMemory))
+    × ((made : T) → answer ≡ Ok made → Stands before.faults after.faults → (cause ≡ Done) ⊎ (cause ≡ NoMemory))
+
+-- by the text, or by the text and the image file
+abbrev pub ViewAnswers : SinkState → SinkState → Cause → Format → Option (List ℕ) → List ℕ → Type 0
+ViewAnswers before after cause format None file = AnswersBy before after cause (text_in format file)
+ViewAnswers before after cause format (Some image) file = AnswersBy before after cause (dumped_in format file)
+
 -- Where the file is told and no read or write failed, a view is refused exactly where the format refuses the file, and done
 -- where it doesn't and no print failed, unless memory runs out.
 abbrev pub ViewComplete : FileState → FileState → SinkState → SinkState → View → Cause → Type 0
 ViewComplete old new before after view cause =
-    Stands old.read_faults new.read_faults → Stands old.write_faults new.write_faults → ForFile old.kept view.file (λ file.
-    ((fault : ReadingFault) → text_in view.format file ≡ Err fault → (cause ≡ Unread fault) ⊎ (cause ≡ NoMemory))
-    × ((text : List ℕ) → text_in view.format file ≡ Ok text → Stands before.faults after.faults → (cause ≡ Done) ⊎ (cause ≡ NoMemory)))
+    Stands old.read_faults new.read_faults → Stands old.write_faults new.write_faults → ForFile old.kept view.file (ViewAnswers before after cause view.format view.dump)
 
 abbrev pub CompleteBy : FileState → FileState → SinkState → SinkState → Option LinkNames → Option View → Cause → Type 0
 CompleteBy old new before after (Some names) view cause = LinkComplete old new names cause

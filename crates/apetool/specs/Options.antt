@@ -1,6 +1,6 @@
--- The words of a command that shows a file, `load [--machine M] [--page N] FILE` or `map --as elf [--machine M] [--page N] FILE`:
+-- The words of a command that shows a file, `load [--machine M] [--page N] [--dump OUT] FILE` or `map --as elf [--machine M] [--page N] FILE`:
 -- options in any order, each with its value behind it, and the file.
-use Rattle.std.specs.Prelude.{ℕ, nat_lt, nat_eq, if◌then◌else◌, ◌&&◌, Bool, is_some, is_none, unwrap_or, List, [], ◌∷◌, length, codes, Option, Some, None}
+use Rattle.std.specs.Prelude.{ℕ, nat_lt, nat_eq, if◌then◌else◌, ◌&&◌, ◌||◌, not, Bool, true, is_some, is_none, unwrap_or, List, [], ◌∷◌, length, codes, Option, Some, None}
 use Rattle.std.specs.Option.{option_map, option_and_then}
 use Rattle.std.specs.List.{starts_with}
 use Rattle.std.specs.Str.{bytes_eq}
@@ -16,11 +16,14 @@ use Rattle.apetool.specs.Formats.{has_page}
 -- a file, and the format to read it by
 pub record View : Type 0 where
   pub format : Format
+  -- the image file to make, if there is to be one
+  pub dump : Option (List ℕ)
   pub file : List ℕ
 
 -- the options that are given, and the file
 pub record Given : Type 0 where
   pub options : Options
+  pub dump : Option (List ℕ)
   pub file : List ℕ
 
 abbrev pub no_options : Options
@@ -52,14 +55,20 @@ with_option o name value =
     else (if bytes_eq name (codes "--machine") then with_machine o value
     else (if bytes_eq name (codes "--page") then with_page o value else None))
 
-abbrev pub file_in : Options → List ℕ → Option Given
-file_in o file = if is_option file then None else Some (record { options = o; file = file })
+abbrev pub dump_named : Option (List ℕ) → List ℕ → Option (List ℕ)
+dump_named dump value = if is_some dump || is_option value then None else Some value
+
+abbrev pub file_in : Options → Option (List ℕ) → List ℕ → Option Given
+file_in o dump file = if is_option file then None else Some (record { options = o; dump = dump; file = file })
 
 -- the options in words, behind those that are given, and the file
-unfoldable pub given_in : Options → List (List ℕ) → Option Given
-given_in o [] = None
-given_in o (file ∷ []) = file_in o file
-given_in o (name ∷ value ∷ words) = option_and_then (λ p. given_in p words) (with_option o name value)
+unfoldable pub given_in : Options → Option (List ℕ) → List (List ℕ) → Option Given
+given_in o dump [] = None
+given_in o dump (file ∷ []) = file_in o dump file
+given_in o dump (name ∷ value ∷ words) =
+    if bytes_eq name (codes "--dump")
+    then option_and_then (λ out. given_in o (Some out) words) (dump_named dump value)
+    else option_and_then (λ p. given_in p dump words) (with_option o name value)
 
 -- the form that a command reads
 abbrev pub form_of : List ℕ → Option Form → Option Form
@@ -74,10 +83,18 @@ abbrev pub format_of : List ℕ → Options → Option Format
 format_of command o =
     option_and_then (λ form. format_with form (unwrap_or o.machine X64) (unwrap_or o.page (granule_of (unwrap_or o.machine X64)))) (form_of command o.form)
 
+-- `load` dumps to a file that isn't the one that it reads
+abbrev pub dump_fits : List ℕ → Option (List ℕ) → List ℕ → Bool
+dump_fits command None file = true
+dump_fits command (Some out) file = bytes_eq command (codes "load") && not (bytes_eq out file)
+
 abbrev pub view_of : List ℕ → Given → Option View
-view_of command given = option_map (λ format. record { format = format; file = given.file }) (format_of command given.options)
+view_of command given =
+    if dump_fits command given.dump given.file
+    then option_map (λ format. record { format = format; dump = given.dump; file = given.file }) (format_of command given.options)
+    else None
 
 -- the view that a command's words name
 abbrev pub view_in : List (List ℕ) → Option View
 view_in [] = None
-view_in (command ∷ words) = option_and_then (view_of command) (given_in no_options words)
+view_in (command ∷ words) = option_and_then (view_of command) (given_in no_options None words)

@@ -1,6 +1,7 @@
 // Links ELF programs into APE files.
 #![tactic(auto)]
 
+mod dump;
 mod end;
 mod fetch;
 mod format;
@@ -9,6 +10,7 @@ mod options;
 mod print;
 mod run;
 mod show;
+mod store;
 mod text;
 mod words;
 

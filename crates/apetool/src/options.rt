@@ -1,6 +1,6 @@
 // The words of a command that shows a file: its options in any order, each with its value behind it, and the file.
 ghost use Rattle.std.specs.Prelude.{◌≡◌, IfSome};
-ghost use Rattle.std.specs.Option.{option_map};
+ghost use Rattle.std.specs.Option.{option_map, option_copied};
 ghost use Rattle.ap_elfmap.specs.ElfPlans.{IsPage};
 ghost use Rattle.apetool.specs.Words.{texts_of};
 ghost use Rattle.apetool.specs.Options as spec;
@@ -21,6 +21,8 @@ pub struct Options {
 #[derive(Clone, Copy)]
 pub struct View<'a> {
     pub format: Format,
+    /// The image file to make, if there is to be one.
+    pub dump: Option<&'a str>,
     pub file: &'a str,
 }
 
@@ -28,25 +30,47 @@ pub struct View<'a> {
 #[derive(Clone, Copy)]
 struct Given<'a> {
     options: Options,
+    dump: Option<&'a str>,
     file: &'a str,
 }
 
-/// The view in the words `load [--machine M] [--page N] FILE` or `map --as elf [--machine M] [--page N] FILE`, whose options
-/// stand in any order; any other words are none. M is `x86-64`, which it is where it isn't given, or `aarch64`. N is 4096,
-/// or 16384 for AArch64; where it isn't given, it is the greatest of the machine.
+/// The view in the words `load [--machine M] [--page N] [--dump OUT] FILE` or `map --as elf [--machine M] [--page N] FILE`,
+/// whose options stand in any order; any other words are none. M is `x86-64`, which it is where it isn't given, or
+/// `aarch64`. N is 4096, or 16384 for AArch64; where it isn't given, it is the greatest of the machine. OUT isn't FILE.
 pub fn read_view(words: &[String]) -> Option<View<'_>>
     ensures page { IfSome result (λ v. IsPage v.format.machine v.format.page) }
-    ensures view { option_map (λ v. record { format = v.format; file = v.file.now }) result ≡ spec.view_in (texts_of words.now) }
+    ensures view { option_map (λ v. record { format = v.format; dump = option_copied v.dump; file = v.file.now }) result ≡ spec.view_in (texts_of words.now) }
 {
     let [command, rest @ ..] = words else {
         return None;
     };
-    let given = read_given(NO_OPTIONS, rest)?;
-    let format = format_of(command.as_str(), given.options)?;
+    let given = read_given(NO_OPTIONS, None, rest)?;
+    view_of(command.as_str(), given)
+}
+
+fn view_of<'a>(command: &str, given: Given<'a>) -> Option<View<'a>>
+    ensures page { IfSome result (λ v. IsPage v.format.machine v.format.page) }
+    ensures view { option_map (λ v. record { format = v.format; dump = option_copied v.dump; file = v.file.now }) result ≡ spec.view_of command.now (record { options = given.entry.options; dump = option_copied given.entry.dump; file = given.entry.file.now }) }
+{
+    if !dump_fits(command, given.dump, given.file) {
+        return None;
+    }
+    let format = format_of(command, given.options)?;
     Some(View {
         format,
+        dump: given.dump,
         file: given.file,
     })
+}
+
+// Whether a command dumps to this file: `load` does, where it isn't the file that it reads.
+fn dump_fits(command: &str, dump: Option<&str>, file: &str) -> bool
+    ensures { result ≡ spec.dump_fits command.now (option_copied dump.entry) file.now }
+{
+    match dump {
+        None => true,
+        Some(out) => command == "load" && out != file,
+    }
 }
 
 const NO_OPTIONS: Options = Options {
@@ -57,26 +81,45 @@ const NO_OPTIONS: Options = Options {
 
 // The options in the words behind others, and the file.
 #[tactic(auto, unfolding(crate::specs::Options::given_in))]
-fn read_given<'a>(options: Options, words: &'a [String]) -> Option<Given<'a>>
-    ensures { option_map (λ g. record { options = g.options; file = g.file.now }) result ≡ spec.given_in options (texts_of words.now) }
+fn read_given<'a>(options: Options, dump: Option<&'a str>, words: &'a [String]) -> Option<Given<'a>>
+    ensures { option_map (λ g. record { options = g.options; dump = option_copied g.dump; file = g.file.now }) result ≡ spec.given_in options (option_copied dump.entry) (texts_of words.now) }
 {
     match words {
         [] => None,
-        [file] => read_file(options, file.as_str()),
+        [file] => read_file(options, dump, file.as_str()),
+        [name, value, rest @ ..] if name.as_str() == "--dump" => {
+            let dump = dump_named(dump, value.as_str())?;
+            read_given(options, Some(dump), rest)
+        }
         [name, value, rest @ ..] => {
             let options = with_option(options, name.as_str(), value.as_str())?;
-            read_given(options, rest)
+            read_given(options, dump, rest)
         }
     }
 }
 
-fn read_file(options: Options, file: &str) -> Option<Given<'_>>
-    ensures { option_map (λ g. record { options = g.options; file = g.file.now }) result ≡ spec.file_in options file.now }
+fn read_file<'a>(options: Options, dump: Option<&'a str>, file: &'a str) -> Option<Given<'a>>
+    ensures { option_map (λ g. record { options = g.options; dump = option_copied g.dump; file = g.file.now }) result ≡ spec.file_in options (option_copied dump.entry) file.now }
 {
     if is_option(file) {
         None
     } else {
-        Some(Given { options, file })
+        Some(Given {
+            options,
+            dump,
+            file,
+        })
+    }
+}
+
+// The file to dump to, which wasn't given before.
+fn dump_named<'a>(dump: Option<&'a str>, value: &'a str) -> Option<&'a str>
+    ensures { option_copied result ≡ spec.dump_named (option_copied dump.entry) value.now }
+{
+    if dump.is_some() || is_option(value) {
+        None
+    } else {
+        Some(value)
     }
 }
 

@@ -1,12 +1,15 @@
 // A run of the program.
 ghost use Rattle.std.specs.Prelude.{◌≡◌, ◌≢◌};
 ghost use Rattle.apetool.specs.Words.{texts_of};
-ghost use Rattle.apetool.specs.Ends.{LinkEnds, RunEnds, IsComplete, status_of};
+ghost use Rattle.apetool.specs.Ends.{LinkEnds, ViewEnds, RunEnds, IsComplete, status_of};
+ghost use Rattle.std.specs.Option.{option_copied};
+ghost use Rattle.ap_elfmap.specs.ElfPlans.{IsPage};
 ghost use Rattle.apetool.specs.Lines.{line_of};
 ghost use Rattle.apetool.specs.Prints.{Reports};
 
+use crate::dump::dump;
 use crate::end::{Cause, End, end_by};
-use crate::options::read_view;
+use crate::options::{View, read_view};
 use crate::show::show;
 use crate::words::read_link;
 use ap_files::{Files, Sink};
@@ -15,7 +18,7 @@ use std::alloc::Global;
 
 /// Does what the words say over these files, and answers how it ended. `words` doesn't have the program's name.
 ///
-/// `load` and `map` print a plan on `out`, and a link prints nothing there. Where the status isn't 0, one line on `err` says
+/// `load` and `map` print a plan on `out`, and `load --dump` writes its image file before; a link prints nothing. Where the status isn't 0, one line on `err` says
 /// why.
 pub fn run<F: Files, O: Sink, E: Sink>(
     alloc: Global,
@@ -40,8 +43,18 @@ fn obey<F: Files, O: Sink>(alloc: Global, words: &[String], files: &mut F, out: 
         return link(alloc, files, names.out, names.input);
     }
     match read_view(words) {
-        Some(view) => show(alloc, files, out, &view.format, view.file),
+        Some(view) => show_view(alloc, files, out, &view),
         None => Cause::Usage,
+    }
+}
+
+fn show_view<F: Files, O: Sink>(alloc: Global, files: &mut F, out: &mut O, view: &View<'_>) -> Cause
+    requires { IsPage view.now.format.machine view.now.format.page }
+    ensures { ViewEnds (F.state files.old) (F.state files.new) (O.state out.old) (O.state out.new) view.now.format view.now.file.now (option_copied view.now.dump) result }
+{
+    match view.dump {
+        None => show(alloc, files, out, &view.format, view.file),
+        Some(image) => dump(alloc, files, out, &view.format, view.file, image),
     }
 }
 

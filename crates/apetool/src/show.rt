@@ -29,7 +29,7 @@ pub fn show<F: Files, O: Sink>(
     }
 }
 
-fn print_text<O: Sink>(out: &mut O, text: &[u8]) -> Cause
+pub fn print_text<O: Sink>(out: &mut O, text: &[u8]) -> Cause
     ensures { Printed (O.state out.old) (O.state out.new) text.now result }
 {
     match print(out, text) {
@@ -54,7 +54,7 @@ fn text_of<F: Files>(
     }
 }
 
-fn cause_of(fault: Unfetched) -> Cause
+pub fn cause_of(fault: Unfetched) -> Cause
     ensures { result ≡ spec.cause_of fault }
 {
     match fault {

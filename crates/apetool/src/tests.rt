@@ -1,4 +1,5 @@
 // The command over files in memory.
+mod dumps;
 mod example;
 mod failures;
 mod lines;
@@ -61,7 +62,10 @@ static REFUSED: [(&[Edit], usize, Broken); 7] = [
 const LINK: &[&str] = &["link", "--systems", "linux", "-o", "out", "in"];
 
 /// Words that are no command.
-static OTHER_WORDS: [&[&str]; 8] = [
+static OTHER_WORDS: [&[&str]; 11] = [
+    &["load", "--dump", "in", "in"],
+    &["load", "--dump", "a", "--dump", "b", "in"],
+    &["map", "--as", "elf", "--dump", "out", "in"],
     &[],
     &["link"],
     &["link", "in"],

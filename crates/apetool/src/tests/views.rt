@@ -22,7 +22,8 @@ struct View {
 /// The program with its load at 4096.
 const AT_4096: &[Edit] = &[(72, b"\0\x10")];
 
-const LINKED_TEXT: &[u8] = b"entry 0000000000401000\n\
+/// The text of the linked program's plan.
+pub const LINKED_TEXT: &[u8] = b"entry 0000000000401000\n\
     0000000000401000 0000000000001000 0000000000001000 0000000000004000 r-x\n";
 
 const USAGE: &[u8] = b"apetool: usage: apetool link|load|map|script|assimilate|inspect|trial ...\n";
@@ -162,7 +163,7 @@ fn is_front(bytes: &[u8], length: usize) -> bool {
 }
 
 /// The linked program as the file `in`, with other bytes at some places, and cut to a length.
-fn linked(rt: &impl Abort, alloc: Global, edits: &[Edit], length: usize) -> MemoryFiles {
+pub fn linked(rt: &impl Abort, alloc: Global, edits: &[Edit], length: usize) -> MemoryFiles {
     let mut input = plain_linked(rt, alloc);
     for (at, bytes) in edits {
         super::example::put(&mut input, *at, bytes);
@@ -172,7 +173,7 @@ fn linked(rt: &impl Abort, alloc: Global, edits: &[Edit], length: usize) -> Memo
 }
 
 /// A sink of which these writes fail.
-fn sink(rt: &impl Abort, alloc: Global, fails: &[u64]) -> MemorySink {
+pub fn sink(rt: &impl Abort, alloc: Global, fails: &[u64]) -> MemorySink {
     MemorySink::new(alloc, 200, fails).expect(rt, "memory")
 }
 
