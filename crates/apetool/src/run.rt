@@ -18,8 +18,8 @@ use std::alloc::Global;
 
 /// Does what the words say over these files, and answers how it ended. `words` doesn't have the program's name.
 ///
-/// `load` and `map` print a plan on `out`, and `load --dump` writes its image file before; a link prints nothing. Where the status isn't 0, one line on `err` says
-/// why.
+/// `load` and `map` print a plan on `out`, and `load --dump` writes its image file before; a link prints nothing there.
+/// Where the status isn't 0, one line on `err` says why.
 pub fn run<F: Files, O: Sink, E: Sink>(
     alloc: Global,
     words: &[String],
