@@ -1,4 +1,4 @@
--- The command that words are: so far, `link --systems linux -o OUT IN` alone.
+-- The words of a link: so far, `link --systems linux -o OUT IN` alone.
 use Rattle.std.specs.Prelude.{ℕ, List, [], ◌∷◌, map, if◌then◌else◌, ◌&&◌, not, codes, Option, Some, None, String}
 use Rattle.std.specs.Str.{bytes_eq}
 use Rattle.std.specs.String.{string_bytes}
