@@ -153,6 +153,10 @@ check 'map prints the plan of the input' \
     shows 0 "$(plan 0000000000001400 0000000000000000)"$'\n' '' "$apetool" map --as elf in
 check 'load prints that of the linked file' \
     shows 0 "$(plan 0000000000002000 0000000000004000)"$'\n' '' "$apetool" load "$work/linked"
+check 'load --dump prints it as well' \
+    shows 0 "$(plan 0000000000002000 0000000000004000)"$'\n' '' "$apetool" load --dump image "$work/linked"
+check 'and writes 48 bytes, and those of the load'\''s two pages' [ "$(stat -c %s image)" = $((48 + 8192)) ]
+check 'the load stands among them' cmp -s -n 5000 <(tail -c +$((48 + 121)) image) <(tail -c +121 in)
 check 'a file of another format ends with 1, and a line says why' \
     shows 1 '' $'apetool: ape NoMagic item 0 value 0\n' "$apetool" load in
 check 'a missing file ends with 3' shows 3 '' $'apetool: cannot read\n' "$apetool" load missing
