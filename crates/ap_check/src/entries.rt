@@ -1,13 +1,11 @@
 // Rules 12 and 13, of the program headers.
 ghost use Rattle.std.specs.Prelude.{◌≡◌, ◌≤◌, ◌<◌, OnOk, IfOk, length};
 ghost use Rattle.ap_fields.specs.declared.sizes.TheConstants.{MOST_LOADS};
-ghost use Rattle.ap_elf.specs.ElfReading as elf;
 ghost use Rattle.ap_elf.specs.Fields.{loads_in};
-ghost use Rattle.ap_elf.specs.Fields as fields;
 ghost use Rattle.ap_check.specs.Rules.{Checks, dynamic_rules, count_rules, count_of_loads_rules};
 
 use crate::fault::{Fault, broken};
-use ap_elf::Entry;
+use ap_elf::{Entry, is_dynamic, loads};
 use ap_fields::MOST_LOADS;
 use arrayvec::ArrayVec;
 
@@ -40,12 +38,6 @@ fn check_dynamic(entries: &[Entry], number: u8) -> Result<(), Fault>
     Ok(())
 }
 
-fn is_dynamic(p: &Entry) -> bool
-    ensures { result ≡ elf.is_dynamic p.now }
-{
-    p.kind == 3 || p.kind == 2
-}
-
 // Rule 13: the number of the loads.
 fn check_count(loads: usize, number: u8) -> Result<(), Fault>
     ensures rules { Checks result (count_rules number loads) }
@@ -56,25 +48,6 @@ fn check_count(loads: usize, number: u8) -> Result<(), Fault>
         return Err(broken(number, 13, 0, loads as u64));
     }
     Ok(())
-}
-
-fn is_load(p: &Entry) -> bool
-    ensures { result ≡ fields.is_load p.now }
-{
-    p.kind == 1 && p.memsz != 0
-}
-
-fn loads(entries: &[Entry]) -> ArrayVec<Entry, 64>
-    requires { length entries.now ≤ 64 }
-    ensures { result.items ≡ loads_in entries.now }
-{
-    let mut found = ArrayVec::new();
-    for p in entries {
-        if is_load(p) {
-            found.push(*p);
-        }
-    }
-    found
 }
 
 // Loads that are few enough.

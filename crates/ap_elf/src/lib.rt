@@ -4,11 +4,13 @@
 
 mod fault;
 mod file;
+mod kinds;
 mod read;
 mod types;
 
 pub use fault::{ElfCause, ElfFault};
 pub use file::{entries_in, header_in};
+pub use kinds::{is_dynamic, loads};
 pub use read::{entries, entry, header};
 pub use types::{Entry, Header};
 

@@ -1,16 +1,14 @@
 // The program headers: those of a file whose first bytes are replaced, and what is asked of all.
 ghost use Rattle.std.specs.Prelude.{◌≡◌, ◌+◌, ◌*◌, ◌≤◌, ◌++◌, length, take, drop};
 ghost use Rattle.ap_fields.specs.Bytes.{over};
-ghost use Rattle.ap_elf.specs.Fields as fields;
-ghost use Rattle.ap_elf.specs.Fields.{entries_from, loads_in};
-ghost use Rattle.ap_elf.specs.ElfReading as elf;
+ghost use Rattle.ap_elf.specs.Fields.{entries_from};
 ghost use Rattle.ap_elf.specs.ElfReading.{dynamic_rules};
 ghost use Rattle.ap_elfmap.specs.ElfPlans.{Checks};
 ghost use Rattle.ap_elfmap.specs.declared.entries.TheConstants.{FRONT};
 ghost use Rattle.arrayvec.specs.ArrayVec.{array_vec_len};
 
 use crate::fault::fault;
-use ap_elf::{ElfCause, ElfFault, Entry, entries};
+use ap_elf::{ElfCause, ElfFault, Entry, entries, is_dynamic};
 use arrayvec::ArrayVec;
 
 /// The bytes that a header and a program header table take at most, where the table begins in the header.
@@ -66,30 +64,4 @@ pub fn check_dynamic(entries: &[Entry]) -> Result<(), ElfFault>
         k += 1;
     }
     Ok(())
-}
-
-fn is_dynamic(p: &Entry) -> bool
-    ensures { result ≡ elf.is_dynamic p.now }
-{
-    p.kind == 3 || p.kind == 2
-}
-
-/// The loads among program headers.
-pub fn loads(entries: &[Entry]) -> ArrayVec<Entry, 64>
-    requires { length entries.now ≤ 64 }
-    ensures { result.items ≡ loads_in entries.now }
-{
-    let mut found = ArrayVec::new();
-    for p in entries {
-        if is_load(p) {
-            found.push(*p);
-        }
-    }
-    found
-}
-
-fn is_load(p: &Entry) -> bool
-    ensures { result ≡ fields.is_load p.now }
-{
-    p.kind == 1 && p.memsz != 0
 }

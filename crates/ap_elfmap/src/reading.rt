@@ -12,12 +12,12 @@ ghost use Rattle.ap_image.specs.Reading.{IsPlanOf};
 ghost use Rattle.ap_elfmap.specs.ElfPlans.{Checks, IsPage, Looks, region_of, elf_plan, elf_plan_by};
 ghost use Rattle.ap_elfmap.specs.Laws.{cells-by, frame-elf, page-granule};
 
-use crate::entries::{check_dynamic, entries_over, loads};
+use crate::entries::{check_dynamic, entries_over};
 use crate::fault::{check, fault};
 use crate::header::check_header;
 use crate::loads::regions;
 use ap_check::Machine;
-use ap_elf::{ElfCause, ElfFault, Entry, Header};
+use ap_elf::{ElfCause, ElfFault, Entry, Header, loads};
 use ap_image::{Plan, Reading, Region};
 use arrayvec::ArrayVec;
 

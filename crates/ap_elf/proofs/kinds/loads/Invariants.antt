@@ -1,6 +1,6 @@
 use Rattle.std.proofs.Common.{◌≡◌, ◌≤◌, length, take}
 use Rattle.ap_elf.specs.Fields.{loads_in}
-use Rattle.ap_check.proofs.entries.loads.Given as goal
+use Rattle.ap_elf.proofs.kinds.loads.Given as goal
 
 abbrev pub invariant-loop-p : goal.invariant-loop-p
 invariant-loop-p l = record {
