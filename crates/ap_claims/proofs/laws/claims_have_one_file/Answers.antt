@@ -1,0 +1,8 @@
+use Rattle.ap_claims.proofs.OneFile.{claims-agree, files-one}
+use Rattle.ap_claims.proofs.laws.claims_have_one_file.Goals as goal
+
+pub returns-clause-agree : goal.returns-clause-agree
+returns-clause-agree c = claims-agree
+
+pub returns-clause-one : goal.returns-clause-one
+returns-clause-one c = files-one
