@@ -82,7 +82,7 @@ if [ "$(uname -s) $(uname -m)" != 'Linux x86_64' ]; then
     skip 'all' 'the example runs on x86-64 Linux alone'
     finish
 fi
-for tool in as ld readelf; do
+for tool in as ld; do
     is_there "$tool" || { skip 'all' "the example is built by $tool (package binutils)" && finish; }
 done
 

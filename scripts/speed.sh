@@ -1,10 +1,16 @@
 #!/usr/bin/env bash
-# Measures how long the program takes for an input of 100 MB, against cp of the same bytes, each the best of five runs
-# that take turns. Where STRICT is set the ratio may be 2.5 at most. Usage: scripts/speed.sh [APETOOL]
+# Measures how long the program takes, each the best of five runs that take turns: a link of 100 MB against cp of the same
+# bytes; a link of a program of 100,000 symbols against one of the same program stripped; and a load of a file of 500 MB
+# against cat of it. A load may take 2 times as long as cat. Where STRICT is set a link may take 2.5 times as long as cp,
+# and one with symbols 1.3 times as long as one without. Usage: scripts/speed.sh [APETOOL]
 . "$(dirname "$0")/lib.sh"
 
 size=100000000
 bound=250 # hundredths
+symbols=100000
+symbols_bound=130
+loaded=500000000
+load_bound=200
 
 # Sets $took to the microseconds that a command takes, and fails as it does.
 time_of() { # COMMAND..
@@ -29,6 +35,42 @@ is_whole() {
     cmp -s -n "$size" <(tail -c +$((16384 + 121)) "$work/linked") <(tail -c +121 "$work/program")
 }
 
+# Loads and reads of the linked file, lengthened by a hole, in turns, with the least times.
+measure_load() {
+    local turn
+    truncate -s "$loaded" "$work/linked" || return 1
+    for turn in 1 2 3 4 5; do
+        time_of "$apetool" load "$work/linked" >"$work/plan" || return 1
+        [ "$turn" != 1 ] && [ "$took" -ge "$loading" ] || loading=$took
+        time_of cat "$work/linked" >/dev/null || return 1
+        [ "$turn" != 1 ] && [ "$took" -ge "$reading" ] || reading=$took
+    done
+}
+
+# A program of many functions, with their symbols and stripped of them.
+make_symbols() {
+    seq "$symbols" | sed 's/.*/function_&_of_the_program: .skip 64, 0x90/; 1i .globl _start\n_start:' |
+        as --64 -o "$work/symbols.o" - && ld -static -o "$work/symbols" "$work/symbols.o" &&
+        strip -o "$work/stripped" "$work/symbols"
+}
+
+# Links of both in turns, with the least times.
+measure_symbols() {
+    local turn
+    for turn in 1 2 3 4 5; do
+        rm -f "$work/linked"
+        time_of link "$work/linked" "$work/symbols" || return 1
+        [ "$turn" != 1 ] && [ "$took" -ge "$naming" ] || naming=$took
+        rm -f "$work/linked"
+        time_of link "$work/linked" "$work/stripped" || return 1
+        [ "$turn" != 1 ] && [ "$took" -ge "$bare" ] || bare=$took
+    done
+}
+
+is_planned() {
+    [ "$(head -n 1 "$work/plan")" = 'entry 0000000000400078' ]
+}
+
 if [ -z "${EPOCHREALTIME-}" ]; then
     skip 'all' 'the clock of bash 5 is missing'
     finish
@@ -44,11 +86,34 @@ check '100 MB are linked five times' measure
 [ "$failed" = 0 ] || finish
 check 'the linked file holds the load' is_whole
 
-ratio=$((100 * linking / copying))
-figures=$(printf 'link %d ms, cp %d ms, ratio %d.%02d' $((linking / 1000)) $((copying / 1000)) $((ratio / 100)) $((ratio % 100)))
-if [ -n "${STRICT-}" ]; then
-    check "$figures, at most 2.50" [ "$ratio" -le "$bound" ]
+# Compares two times in microseconds with a bound in hundredths, which is asked for where STRICT is set.
+compare() { # WHAT TIME WHAT TIME BOUND
+    local ratio=$((100 * $2 / $4)) figures
+    figures=$(printf '%s %d us, %s %d us, ratio %d.%02d' "$1" "$2" "$3" "$4" $((ratio / 100)) $((ratio % 100)))
+    if [ -n "${STRICT-}" ]; then
+        check "$figures, at most $(($5 / 100)).$(($5 % 100))" [ "$ratio" -le "$5" ]
+    else
+        echo "$figures ($(($5 / 100)).$(($5 % 100)) is wanted, and asked for where STRICT is set)"
+    fi
+}
+
+compare link "$linking" cp "$copying" "$bound"
+
+mv "$work/linked" "$work/large"
+if is_there as && is_there ld && is_there strip; then
+    check 'a program of 100,000 symbols is made' make_symbols
+    check 'it is linked five times' measure_symbols
+    [ "$failed" = 0 ] || finish
+    compare 'link with 100,000 symbols' "$naming" 'without them' "$bare" "$symbols_bound"
 else
-    echo "$figures (2.50 is wanted, and asked for where STRICT is set)"
+    skip 'symbols' 'they are made by as, ld and strip (package binutils)'
 fi
+mv "$work/large" "$work/linked"
+
+check '500 MB are loaded five times' measure_load
+[ "$failed" = 0 ] || finish
+check 'the plan is printed' is_planned
+ratio=$((100 * loading / reading))
+figures=$(printf 'load %d ms, cat %d ms, ratio %d.%02d' $((loading / 1000)) $((reading / 1000)) $((ratio / 100)) $((ratio % 100)))
+check "$figures, at most 2.00" [ "$ratio" -le "$load_bound" ]
 finish

@@ -1,4 +1,7 @@
+pub mod Firsts
 pub mod Held
-pub mod Laws
-pub mod Counts
 pub mod Told
+pub mod Found
+pub mod Pairs
+pub mod Prefixes
+pub mod Laws

@@ -1,4 +1,6 @@
-pub mod Rules
-pub mod Inputs
-pub mod Ends
 pub mod Machines
+pub mod Inputs
+pub mod Rules
+pub mod Bare
+pub mod Ends
+pub mod Both

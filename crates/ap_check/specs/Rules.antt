@@ -1,18 +1,22 @@
 -- The rules that an input of the linker has to meet, in their order, each with the fault that it gives where it fails.
 -- They speak of the file's size, its header and its program headers, whatever source these were read from. The fields
 -- are those of the System V gABI; the rules, their numbers and limits are this project's own.
-use Rattle.std.specs.Prelude.{◌≡◌, ℕ, ◌+◌, ◌*◌, ◌-◌, ◌^◌, ◌==◌, ◌&&◌, ◌||◌, not, nat_le, if◌then◌else◌, Bool, List, [], ◌∷◌, ◌++◌, length, slice_index, sum_by, Option, None, Some, Result, MatchResult, bit_and}
-use Rattle.std.specs.List.{list_any}
+use Rattle.std.specs.Prelude.{◌≡◌, ℕ, ◌+◌, ◌*◌, ◌^◌, ◌==◌, ◌&&◌, ◌||◌, not, nat_le, if◌then◌else◌, Bool, true, false, List, [], ◌∷◌, ◌++◌, length, map, slice_index, Option, None, Some, Result, MatchResult, bit_and}
 use Rattle.ap_fields.specs.declared.sizes.TheConstants.{MOST_LOADS}
 use Rattle.ap_fields.specs.Fields.{number_at}
 use Rattle.ap_fields.specs.Granules.{floor_of, ceil_of}
+use Rattle.ap_fields.specs.FirstFault.{Rules, first_fault}
 use Rattle.ap_elf.specs.declared.types.Header.{Header}
 use Rattle.ap_elf.specs.declared.types.Entry.{Entry}
 use Rattle.ap_elf.specs.Fields.{header_of, entries_of, loads_in}
-use Rattle.ap_elf.specs.InputCell.{has_address}
 use Rattle.ap_elf.specs.ElfReading.{is_dynamic}
-use Rattle.ap_fields.specs.FirstFault.{Rules, first_fault}
+use Rattle.ap_elf.specs.declared.types.Located.{Located}
+use Rattle.ap_elf.specs.declared.types.Located.TheVariants.{Part, Missing, At}
+use Rattle.ap_elf.specs.Symbols.{part_of}
 use Rattle.ap_check.specs.declared.fault.Fault.{Fault}
+use Rattle.ap_check.specs.declared.load.Load.{Load}
+use Rattle.ap_check.specs.Machines.{granule_of}
+use Rattle.ap_check.specs.Inputs.{in_part, can_start, span_of, bytes_of_loads, is_tls, load_of, loads_of, machine_of, located_of}
 
 -- the fault of a rule, in the input number n
 abbrev pub fault_of : ℕ → ℕ → ℕ → ℕ → Fault
@@ -58,91 +62,94 @@ dynamic_rules n k (p ∷ entries) = (not (is_dynamic p), fault_of n 12 k p.kind)
 abbrev pub count_rules : ℕ → ℕ → Rules Fault
 count_rules n loads = (nat_le 1 loads && nat_le loads MOST_LOADS, fault_of n 13 0 loads) ∷ []
 
--- rule 0, what is built so far: one program header, for x86-64, and no sections
-abbrev pub built_rules : ℕ → Header → Rules Fault
-built_rules n h =
-    (h.e_machine == 62, fault_of n 0 1 h.e_machine)
-    ∷ (h.e_phnum == 1, fault_of n 0 2 h.e_phnum)
-    ∷ (h.e_shoff == 0 || h.e_shnum == 0, fault_of n 0 3 h.e_shnum)
-    ∷ []
-
--- rules 14 to 17 of the load number k: its sizes, its part of the file, its addresses, its permissions
-abbrev pub load_rules : ℕ → ℕ → ℕ → Entry → Rules Fault
-load_rules n size k p =
+-- rules 14 to 18 of the load number k, where the granules of the load before it end at `low`, which is 0 for the first: its
+-- sizes, its part of the file, its addresses, its permissions, and its place behind the load before it
+abbrev pub load_rules : ℕ → ℕ → ℕ → ℕ → ℕ → Entry → Rules Fault
+load_rules n size g k low p =
     (nat_le p.filesz p.memsz, fault_of n 14 k p.filesz)
     ∷ (p.filesz == 0 || nat_le (p.offset + p.filesz) size, fault_of n 15 k p.offset)
     ∷ (nat_le 65536 p.vaddr && nat_le (p.vaddr + p.memsz) (2 ^ 47), fault_of n 16 k p.vaddr)
     ∷ (not (bit_and p.flags 4 == 0) && not (bit_and p.flags 3 == 3), fault_of n 17 k p.flags)
+    ∷ (nat_le low (floor_of p.vaddr g), fault_of n 18 k p.vaddr)
     ∷ []
 
--- rules 14 to 17, load by load
-abbrev pub loads_rules : ℕ → ℕ → ℕ → List Entry → Rules Fault
-loads_rules n size k [] = []
-loads_rules n size k (p ∷ loads) = load_rules n size k p ++ loads_rules n size (k + 1) loads
+-- rules 14 to 18, load by load
+abbrev pub loads_rules : ℕ → ℕ → ℕ → ℕ → ℕ → List Entry → Rules Fault
+loads_rules n size g k low [] = []
+loads_rules n size g k low (p ∷ loads) =
+    load_rules n size g k low p ++ loads_rules n size g (k + 1) (ceil_of (p.vaddr + p.memsz) g) loads
 
--- where the granules of a load end
-abbrev pub stop_of : ℕ → Entry → ℕ
-stop_of g p = ceil_of (p.vaddr + p.memsz) g
-
--- where the granules of the last load end, or `low` where there is none
-abbrev pub last_stop : ℕ → ℕ → List Entry → ℕ
-last_stop g low [] = low
-last_stop g low (p ∷ loads) = last_stop g (stop_of g p) loads
-
--- where the granules of the first load start
-abbrev pub first_start : ℕ → List Entry → ℕ
-first_start g [] = 0
-first_start g (p ∷ loads) = floor_of p.vaddr g
-
--- how far the granules of the loads reach
-abbrev pub span_of : ℕ → List Entry → ℕ
-span_of g loads = last_stop g 0 loads - first_start g loads
-
--- how many bytes of the file the loads have
-abbrev pub bytes_of_loads : List Entry → ℕ
-bytes_of_loads loads = sum_by (λ p. p.filesz) loads
-
--- rule 19: the span and the bytes
-abbrev pub span_rules : ℕ → ℕ → List Entry → Rules Fault
+-- rule 19: how far the loads reach, and how many bytes of the file they have
+abbrev pub span_rules : ℕ → ℕ → List Load → Rules Fault
 span_rules n g loads =
     (nat_le (span_of g loads) (2 ^ 30), fault_of n 19 1 (span_of g loads))
     ∷ (nat_le (bytes_of_loads loads) (2 ^ 28), fault_of n 19 2 (bytes_of_loads loads))
     ∷ []
 
--- whether a load may be executed
-abbrev pub is_executable : Entry → Bool
-is_executable p = not (bit_and p.flags 1 == 0)
-
 -- rule 20: the program starts in a load that may be executed
-abbrev pub entry_rules : ℕ → ℕ → List Entry → Rules Fault
-entry_rules n e loads = (list_any (λ p. has_address p e && is_executable p) loads, fault_of n 20 0 e) ∷ []
+abbrev pub entry_rules : ℕ → ℕ → List Load → Rules Fault
+entry_rules n e loads = (can_start e loads, fault_of n 20 0 e) ∷ []
 
--- the granule of a machine
-abbrev pub granule_at : ℕ → ℕ
-granule_at machine = if machine == 183 then 16384 else 4096
+-- what rule 21 asks of the one entry of type 7: its sizes, its alignment, its addresses, and its part of the file
+abbrev pub stands : List Load → Entry → Bool
+stands loads p =
+    nat_le p.filesz p.memsz
+    && (nat_le p.memsz (2 ^ 30) && nat_le p.align (2 ^ 30)
+    && (nat_le (p.vaddr + p.memsz) (2 ^ 47)
+    && (p.filesz == 0 || in_part p.vaddr p.filesz loads)))
+
+-- no entry is of type 7, of those that are counted from k
+abbrev pub single_rules : ℕ → ℕ → List Entry → Rules Fault
+single_rules n k [] = []
+single_rules n k (p ∷ entries) = (not (is_tls p), fault_of n 21 k p.vaddr) ∷ single_rules n (k + 1) entries
+
+-- rule 21: the first entry of type 7 is the only one, and it stands
+abbrev pub tls_rules : ℕ → ℕ → List Load → List Entry → Rules Fault
+tls_rules n k loads [] = []
+tls_rules n k loads (p ∷ entries) =
+    if is_tls p then single_rules n (k + 1) entries ++ ((stands loads p, fault_of n 21 k p.vaddr) ∷ [])
+    else tls_rules n (k + 1) loads entries
 
 -- rules 12 and 13
 unfoldable pub count_of_loads_rules : ℕ → List Entry → Rules Fault
 count_of_loads_rules n entries = dynamic_rules n 1 entries ++ count_rules n (length (loads_in entries))
 
--- rules 14 to 20
-unfoldable pub laid_rules : ℕ → ℕ → ℕ → ℕ → List Entry → Rules Fault
-laid_rules n size g e loads = loads_rules n size 1 loads ++ (span_rules n g loads ++ entry_rules n e loads)
+-- rules 14 to 19, of the entries that are loads
+unfoldable pub laid_rules : ℕ → ℕ → ℕ → List Entry → Rules Fault
+laid_rules n size g loads = loads_rules n size g 1 0 loads ++ span_rules n g (map load_of loads)
 
--- rules 12 to 20, with rule 0 behind rule 13
+-- rules 20 and 21
+unfoldable pub end_rules : ℕ → ℕ → List Load → List Entry → Rules Fault
+end_rules n e loads entries = entry_rules n e loads ++ tls_rules n 1 loads entries
+
+-- rules 12 to 21
 unfoldable pub table_rules : ℕ → ℕ → Header → List Entry → Rules Fault
 table_rules n size h entries =
     count_of_loads_rules n entries
-    ++ (built_rules n h
-    ++ laid_rules n size (granule_at h.e_machine) h.e_entry (loads_in entries))
+    ++ (laid_rules n size (granule_of (machine_of h.e_machine)) (loads_in entries)
+    ++ end_rules n h.e_entry (loads_of entries) entries)
 
--- all rules of an input, by its size, its header and its program headers
-unfoldable pub input_rules : ℕ → ℕ → Header → List Entry → Rules Fault
-input_rules n size h entries = size_rules n size ++ (header_rules n size h ++ table_rules n size h entries)
+-- rules 1 to 21, of a size, a header and program headers
+unfoldable pub bare_rules : ℕ → ℕ → Header → List Entry → Rules Fault
+bare_rules n size h entries = size_rules n size ++ (header_rules n size h ++ table_rules n size h entries)
 
--- all rules of an input, by its bytes
+-- whether no part of the symbol table fails
+abbrev pub holds_in : Located → Bool
+holds_in (Part p) = false
+holds_in Missing = true
+holds_in (At t) = true
+
+-- rule 22, of what was found of the symbols
+abbrev pub symbols_rules : ℕ → Located → Rules Fault
+symbols_rules n found = (holds_in found, fault_of n 22 0 (part_of found)) ∷ []
+
+-- rules 1 to 22, of a size, a header, program headers and what was found of the symbols
+unfoldable pub input_rules : ℕ → ℕ → Header → List Entry → Located → Rules Fault
+input_rules n size h entries found = bare_rules n size h entries ++ symbols_rules n found
+
+-- rules 1 to 22, by an input's bytes
 unfoldable pub rules_of : ℕ → List ℕ → Rules Fault
-rules_of n b = input_rules n (length b) (header_of b) (entries_of b)
+rules_of n b = input_rules n (length b) (header_of b) (entries_of b) (located_of b)
 
 -- the fault of the first rule that an input breaks, if any
 abbrev pub first_fault_of : ℕ → List ℕ → Option Fault

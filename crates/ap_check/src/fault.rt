@@ -2,17 +2,17 @@
 ghost use Rattle.std.specs.Prelude.{◌≡◌, if◌then◌else◌};
 ghost use Rattle.ap_check.specs.Rules.{fault_of};
 
-/// The first rule that an input breaks.
+/// The first rule that an input breaks, or two inputs together.
 #[derive(Clone, Copy, Debug, PartialEq, Eq)]
 pub struct Fault {
-    /// The rule's number, or 0 for an input of a kind that isn't built yet.
+    /// The rule's number.
     pub rule: u8,
     /// The input's number, 1 or 2.
     pub input: u8,
-    /// The entry or load that breaks the rule, counted from 1, or 0 where the rule is of the whole file. Rules 0 and 19
-    /// have parts, and this is the part's number.
+    /// The entry or load that breaks the rule, counted from 1, or 0 where the rule is of the whole file. Rule 19 has two
+    /// parts, and this is the part's number.
     pub item: u16,
-    /// The number that was found.
+    /// The number that was found. Of rule 22 it is the number of the part that fails.
     pub value: u64,
 }
 

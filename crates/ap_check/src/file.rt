@@ -1,64 +1,71 @@
 // The rules of one input, by its name.
-ghost use Rattle.std.specs.Prelude.{IfOk};
-ghost use Rattle.ap_files.specs.Reads.{HasSize};
+ghost use Rattle.std.specs.Prelude.{◌≡◌, true, All, IfOk};
+ghost use Rattle.ap_files.specs.Reads.{Reads, HasSize};
+ghost use Rattle.ap_elf.specs.Symbols.{located, FoundBelow};
+ghost use Rattle.ap_check.specs.Bare.{IsBare};
 ghost use Rattle.ap_check.specs.Ends.{ChecksFile};
+ghost use Rattle.ap_check.specs.Inputs.{is_permitted};
 
-use crate::fault::Fault;
-use crate::header::check_header;
+use crate::bare::Bare;
+use crate::bare_file::check_bare_in;
+use crate::end::CheckEnd;
+use crate::fault::broken;
 use crate::input::Input;
-use crate::size::check_size;
-use crate::table::check_table;
-use ap_elf::{entries_in, header_in};
-use ap_files::Files;
-
-/// Why an input of files isn't taken.
-#[derive(Clone, Copy, Debug, PartialEq, Eq)]
-pub enum CheckEnd {
-    /// It breaks a rule, and this is the first one.
-    Rule(Fault),
-    /// It isn't there, or a read failed.
-    ReadFault,
-}
+use crate::named::with_symbols;
+use crate::named_file::symbols_in;
+use ap_elf::{Located, locate_in};
+use ap_files::{Failed, Files};
 
 /// What is taken of the input `number`, the file of this name, or the first of the rules of [`crate::check_input`] that it
-/// breaks. Of a file whose size breaks a rule nothing else is asked, and of any other its header and its program headers
-/// alone are read, once each.
+/// breaks. Of a file whose size breaks a rule nothing else is asked. Of any other its header and its program headers are
+/// read, once each, then section headers as far as they are needed, and symbols only where `ape_` stands among their names.
 ///
 /// `ReadFault`: the file isn't there, or a read failed.
 pub fn check_input_in<F: Files>(files: &mut F, name: &str, number: u8) -> Result<Input, CheckEnd>
     ensures ends { ChecksFile (F.state files.old) (F.state files.new) name.now number result }
     ensures size { IfOk result (λ i. HasSize (F.state files.new).kept name.now i.size) }
+    ensures number { IfOk result (λ i. i.number ≡ number) }
+    ensures permissions { IfOk result (λ i. All (λ p. is_permitted p ≡ true) i.loads) }
 {
-    match files.size(name) {
-        Ok(size) => check_sized_in(files, name, number, size),
-        Err(_) => Err(CheckEnd::ReadFault),
+    match check_bare_in(files, name, number) {
+        Ok(bare) => check_symbols_in(files, name, number, bare),
+        Err(end) => Err(end),
     }
 }
 
-fn check_sized_in<F: Files>(
+// Rule 22 of an input that keeps those before it.
+fn check_symbols_in<F: Files>(
     files: &mut F,
     name: &str,
     number: u8,
-    size: u64,
+    bare: Bare,
 ) -> Result<Input, CheckEnd>
-    requires { HasSize (F.state files.old).kept name.now size }
+    requires bare { IsBare (F.state files.old).kept name.now number bare }
+    requires size { HasSize (F.state files.old).kept name.now bare.input.size }
+    requires number { bare.input.number ≡ number }
+    requires permissions { All (λ p. is_permitted p ≡ true) bare.input.loads }
     ensures ends { ChecksFile (F.state files.old) (F.state files.new) name.now number result }
     ensures size { IfOk result (λ i. HasSize (F.state files.new).kept name.now i.size) }
+    ensures number { IfOk result (λ i. i.number ≡ number) }
+    ensures permissions { IfOk result (λ i. All (λ p. is_permitted p ≡ true) i.loads) }
 {
-    if let Err(fault) = check_size(size, number) {
-        return Err(CheckEnd::Rule(fault));
-    }
-    let Ok(header) = header_in(files, name) else {
+    let Ok(found) = found_in(files, name, &bare) else {
         return Err(CheckEnd::ReadFault);
     };
-    if let Err(fault) = check_header(&header, size, number) {
-        return Err(CheckEnd::Rule(fault));
+    match found {
+        Located::Part { part } => Err(CheckEnd::Rule(broken(number, 22, 0, part as u64))),
+        Located::Missing => Ok(bare.input),
+        Located::At(t) => match symbols_in(files, name, &t) {
+            Ok(symbols) => Ok(with_symbols(bare.input, symbols)),
+            Err(_) => Err(CheckEnd::ReadFault),
+        },
     }
-    let Ok(entries) = entries_in(files, name, &header) else {
-        return Err(CheckEnd::ReadFault);
-    };
-    match check_table(&header, &entries, size, number) {
-        Ok(input) => Ok(input),
-        Err(fault) => Err(CheckEnd::Rule(fault)),
-    }
+}
+
+fn found_in<F: Files>(files: &mut F, name: &str, bare: &Bare) -> Result<Located, Failed>
+    requires { HasSize (F.state files.old).kept name.now bare.now.input.size }
+    ensures read { Reads (F.state files.old) (F.state files.new) name.now (λ b found. found ≡ located bare.now.input.size b bare.now.header) result }
+    ensures ends { IfOk result (λ found. FoundBelow bare.now.input.size found) }
+{
+    locate_in(files, name, bare.input.size, &bare.header)
 }

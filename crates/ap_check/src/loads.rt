@@ -1,12 +1,13 @@
-// Rules 14 to 17, of each load.
-ghost use Rattle.std.specs.Prelude.{◌≡◌, ◌≤◌, ◌+◌, ◌^◌, OnOk, IfOk, length};
-ghost use Rattle.ap_fields.specs.Granules.{IsGranule};
+// Rules 14 to 18, of each load.
+ghost use Rattle.std.specs.Prelude.{◌≡◌, ◌≤◌, ◌+◌, ◌^◌, OnOk, IfOk, length, map};
+ghost use Rattle.ap_fields.specs.Granules.{IsGranule, ceil_of};
 ghost use Rattle.ap_fields.specs.declared.sizes.TheConstants.{MOST_LOADS};
-ghost use Rattle.ap_check.specs.Rules.{Checks, load_rules, loads_rules, stop_of, last_stop, bytes_of_loads};
+ghost use Rattle.ap_check.specs.Rules.{Checks, load_rules, loads_rules};
+ghost use Rattle.ap_check.specs.Inputs.{load_of, last_stop, bytes_of_loads};
 
 use crate::fault::{Fault, broken};
 use ap_elf::Entry;
-use ap_fields::ceil_to;
+use ap_fields::{ceil_to, floor_to};
 
 /// How far loads reach, and how many bytes of the file they have.
 #[derive(Clone, Copy)]
@@ -16,19 +17,19 @@ pub struct Extent {
     pub bytes: u64,
 }
 
-/// Rules 14 to 17, load by load, of a file of `size` bytes.
+/// Rules 14 to 18, load by load, of a file of `size` bytes.
 #[tactic(auto, using(ap_fields::proofs::FirstFaults::join_steps))]
 pub fn check_loads(loads: &[Entry], size: u64, granule: u64, number: u8) -> Result<Extent, Fault>
     requires granule { IsGranule granule }
     requires few { length loads.now ≤ MOST_LOADS }
-    ensures rules { Checks result (loads_rules number size 1 loads.now) }
-    ensures stop { IfOk result (λ e. e.stop ≡ last_stop granule 0 loads.now) }
-    ensures bytes { IfOk result (λ e. e.bytes ≡ bytes_of_loads loads.now) }
+    ensures rules { Checks result (loads_rules number size granule 1 0 loads.now) }
+    ensures stop { IfOk result (λ e. e.stop ≡ last_stop granule 0 (map load_of loads.now)) }
+    ensures bytes { IfOk result (λ e. e.bytes ≡ bytes_of_loads (map load_of loads.now)) }
 {
     let mut extent = Extent { stop: 0, bytes: 0 };
     let mut k = 1;
     for p in loads {
-        check_load(p, k, size, number)?;
+        check_load(p, k, extent.stop, size, granule, number)?;
         extent.stop = stop(p, granule);
         extent.bytes += p.filesz;
         k += 1;
@@ -36,9 +37,11 @@ pub fn check_loads(loads: &[Entry], size: u64, granule: u64, number: u8) -> Resu
     Ok(extent)
 }
 
-// Rules 14 to 17 of the load number `k`.
-fn check_load(p: &Entry, k: u16, size: u64, number: u8) -> Result<(), Fault>
-    ensures rules { Checks result (load_rules number size k p.now) }
+// Rules 14 to 18 of the load number `k`, where the granules of the load before it end at `low`.
+#[tactic(auto, using(ap_fields::proofs::Granules::powers))]
+fn check_load(p: &Entry, k: u16, low: u64, size: u64, granule: u64, number: u8) -> Result<(), Fault>
+    requires { IsGranule granule }
+    ensures rules { Checks result (load_rules number size granule k low p.now) }
     ensures sizes { OnOk result (p.now.filesz ≤ p.now.memsz) }
     ensures top { OnOk result (p.now.vaddr + p.now.memsz ≤ 2 ^ 47) }
 {
@@ -54,6 +57,9 @@ fn check_load(p: &Entry, k: u16, size: u64, number: u8) -> Result<(), Fault>
     if p.flags & 4 == 0 || p.flags & 3 == 3 {
         return Err(broken(number, 17, k, p.flags as u64));
     }
+    if floor_to(p.vaddr, granule) < low {
+        return Err(broken(number, 18, k, p.vaddr));
+    }
     Ok(())
 }
 
@@ -62,7 +68,7 @@ fn check_load(p: &Entry, k: u16, size: u64, number: u8) -> Result<(), Fault>
 fn stop(p: &Entry, granule: u64) -> u64
     requires granule { IsGranule granule }
     requires top { p.now.vaddr + p.now.memsz ≤ 2 ^ 47 }
-    ensures { result ≡ stop_of granule p.now }
+    ensures { result ≡ ceil_of (p.now.vaddr + p.now.memsz) granule }
 {
     ceil_to(p.vaddr + p.memsz, granule)
 }

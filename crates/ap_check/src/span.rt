@@ -1,17 +1,18 @@
 // Rules 19 and 20, of all loads together.
 ghost use Rattle.std.specs.Prelude.{◌≡◌, ◌<◌, ◌&&◌, length};
 ghost use Rattle.ap_fields.specs.Granules.{IsGranule};
-ghost use Rattle.ap_elf.specs.InputCell.{has_address};
-ghost use Rattle.ap_check.specs.Rules.{Checks, span_rules, entry_rules, last_stop, bytes_of_loads, is_executable};
+ghost use Rattle.ap_check.specs.Rules.{Checks, span_rules, entry_rules};
+ghost use Rattle.ap_check.specs.Inputs.{last_stop, bytes_of_loads, has_address, is_executable};
 
 use crate::fault::{Fault, broken};
+use crate::load::Load;
 use crate::loads::Extent;
-use ap_elf::Entry;
 use ap_fields::floor_to;
+use bitflags::Flags;
 
 /// Rule 19: the granules of the loads reach over 2^30 bytes at most, and the loads have at most 2^28 bytes of the file.
 #[tactic(auto, using(ap_fields::proofs::Granules::powers))]
-pub fn check_span(loads: &[Entry], extent: Extent, granule: u64, number: u8) -> Result<(), Fault>
+pub fn check_span(loads: &[Load], extent: Extent, granule: u64, number: u8) -> Result<(), Fault>
     requires granule { IsGranule granule }
     requires some { 0 < length loads.now }
     requires stop { extent.stop ≡ last_stop granule 0 loads.now }
@@ -31,7 +32,7 @@ pub fn check_span(loads: &[Entry], extent: Extent, granule: u64, number: u8) -> 
 }
 
 /// Rule 20: the program starts in a load that may be executed.
-pub fn check_entry(loads: &[Entry], entry: u64, number: u8) -> Result<(), Fault>
+pub fn check_entry(loads: &[Load], entry: u64, number: u8) -> Result<(), Fault>
     ensures { Checks result (entry_rules number entry loads.now) }
 {
     for p in loads {
@@ -42,8 +43,8 @@ pub fn check_entry(loads: &[Entry], entry: u64, number: u8) -> Result<(), Fault>
     Err(broken(number, 20, 0, entry))
 }
 
-fn can_start(p: &Entry, entry: u64) -> bool
+fn can_start(p: &Load, entry: u64) -> bool
     ensures { result ≡ (has_address p.now entry && is_executable p.now) }
 {
-    p.vaddr <= entry && entry - p.vaddr < p.memsz && p.flags & 1 != 0
+    p.vaddr <= entry && entry - p.vaddr < p.memsz && p.perms.bits() & 1 != 0
 }

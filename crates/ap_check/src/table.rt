@@ -1,67 +1,107 @@
-// Rules 12 to 20, of the header and the program headers, whatever these were read from.
-ghost use Rattle.std.specs.Prelude.{◌≡◌, ◌≤◌, ◌<◌, ◌^◌, IfOk, length};
+// Rules 12 to 21, of the header and the program headers, whatever these were read from.
+ghost use Rattle.std.specs.Prelude.{◌≡◌, ◌≤◌, ◌<◌, ◌^◌, true, All, IfOk, length, map};
 ghost use Rattle.ap_fields.specs.Granules.{IsGranule};
 ghost use Rattle.ap_fields.specs.declared.sizes.TheConstants.{MOST_LOADS};
-ghost use Rattle.ap_check.specs.Rules.{Checks, built_rules, laid_rules, table_rules, granule_at};
-ghost use Rattle.ap_check.specs.Inputs.{taken_of};
+ghost use Rattle.ap_check.specs.Machines.{granule_of};
+ghost use Rattle.ap_check.specs.Rules.{Checks, laid_rules, end_rules, table_rules};
+ghost use Rattle.ap_check.specs.Inputs.{is_permitted, load_of, first_of, is_tls, machine_of, taken_of, no_symbols};
 
 use crate::entries::check_entries;
-use crate::fault::{Fault, broken, demand};
+use crate::fault::Fault;
 use crate::input::Input;
+use crate::load::{Load, taken_loads};
 use crate::loads::check_loads;
+use crate::machine::Machine;
+use crate::notes::notes;
 use crate::span::{check_entry, check_span};
+use crate::stack::stack;
+use crate::symbols::Symbols;
+use crate::tls::check_tls;
 use ap_elf::{Entry, Header};
+use ap_fields::MOST_LOADS;
+use arrayvec::ArrayVec;
 
-/// Rules 12 to 20 of a file of `size` bytes, and what is taken of it.
+/// Rules 12 to 21 of a file of `size` bytes, and what is taken of it but for the symbols.
 #[tactic(auto, using(ap_fields::proofs::FirstFaults::join_steps), unfolding(crate::specs::Rules::table_rules, crate::specs::Inputs::taken_of))]
 pub fn check_table(h: &Header, entries: &[Entry], size: u64, number: u8) -> Result<Input, Fault>
-    requires count { length entries.now ≡ h.now.e_phnum }
     requires few { length entries.now ≤ 64 }
     requires least { 64 ≤ size }
     requires most { size ≤ 2 ^ 28 }
     ensures rules { Checks result (table_rules number size h.now entries.now) }
-    ensures taken { IfOk result (λ i. i ≡ taken_of number size h.now entries.now) }
+    ensures taken { IfOk result (λ i. i ≡ taken_of number size h.now entries.now no_symbols) }
+    ensures number { IfOk result (λ i. i.number ≡ number) }
+    ensures permissions { IfOk result (λ i. All (λ p. is_permitted p ≡ true) i.loads) }
 {
-    let loads = check_entries(entries, number)?;
-    check_built(h, number)?;
-    check_laid(&loads, h.e_entry, size, granule(h.e_machine), number)?;
+    let machine = machine(h);
+    let found = check_entries(entries, number)?;
+    let loads = check_laid(&found, size, granule(machine), number)?;
+    let tls = check_ends(entries, &loads, h.e_entry, number)?;
     Ok(Input {
         size,
         number,
+        machine,
         entry: h.e_entry,
+        tls,
+        stack: stack(entries),
+        notes: notes(entries, &loads),
         loads,
+        symbols: Symbols::default(),
     })
 }
 
-// Rules 14 to 20.
+// The loads, where rules 14 to 19 hold.
 #[tactic(auto, using(ap_fields::proofs::FirstFaults::join_steps), unfolding(crate::specs::Rules::laid_rules))]
-fn check_laid(loads: &[Entry], entry: u64, size: u64, granule: u64, number: u8) -> Result<(), Fault>
+fn check_laid(
+    found: &[Entry],
+    size: u64,
+    granule: u64,
+    number: u8,
+) -> Result<ArrayVec<Load, MOST_LOADS>, Fault>
     requires granule { IsGranule granule }
-    requires some { 0 < length loads.now }
-    requires few { length loads.now ≤ MOST_LOADS }
-    ensures { Checks result (laid_rules number size granule entry loads.now) }
+    requires some { 0 < length found.now }
+    requires few { length found.now ≤ MOST_LOADS }
+    ensures rules { Checks result (laid_rules number size granule found.now) }
+    ensures loads { IfOk result (λ loads. loads.items ≡ map load_of found.now) }
+    ensures permissions { IfOk result (λ loads. All (λ p. is_permitted p ≡ true) loads.items) }
 {
-    let extent = check_loads(loads, size, granule, number)?;
-    check_span(loads, extent, granule, number)?;
-    check_entry(loads, entry, number)
+    let extent = check_loads(found, size, granule, number)?;
+    let loads = taken_loads(found);
+    check_span(&loads, extent, granule, number)?;
+    Ok(loads)
 }
 
-// Rule 0: what is built so far.
-fn check_built(h: &Header, number: u8) -> Result<(), Fault>
-    ensures { Checks result (built_rules number h.now) }
+// Rules 20 and 21.
+#[tactic(auto, using(ap_fields::proofs::FirstFaults::join_steps), unfolding(crate::specs::Rules::end_rules))]
+fn check_ends(
+    entries: &[Entry],
+    loads: &[Load],
+    entry: u64,
+    number: u8,
+) -> Result<Option<Entry>, Fault>
+    requires few { length entries.now ≤ 64 }
+    ensures rules { Checks result (end_rules number entry loads.now entries.now) }
+    ensures first { IfOk result (λ t. t ≡ first_of is_tls entries.now) }
 {
-    demand(h.e_machine == 62, broken(number, 0, 1, h.e_machine as u64))?;
-    demand(h.e_phnum == 1, broken(number, 0, 2, h.e_phnum as u64))?;
-    let sections = h.e_shnum as u64;
-    demand(
-        h.e_shoff == 0 || sections == 0,
-        broken(number, 0, 3, sections),
-    )
+    check_entry(loads, entry, number)?;
+    check_tls(entries, loads, number)
 }
 
-fn granule(machine: u16) -> u64
-    ensures is { result ≡ granule_at machine }
+fn machine(h: &Header) -> Machine
+    ensures { result ≡ machine_of h.now.e_machine }
+{
+    if h.e_machine == 183 {
+        Machine::A64
+    } else {
+        Machine::X64
+    }
+}
+
+fn granule(machine: Machine) -> u64
+    ensures is { result ≡ granule_of machine }
     ensures granule { IsGranule result }
 {
-    if machine == 183 { 16384 } else { 4096 }
+    match machine {
+        Machine::X64 => 4096,
+        Machine::A64 => 16384,
+    }
 }

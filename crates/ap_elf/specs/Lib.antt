@@ -1,3 +1,6 @@
 pub mod Fields
 pub mod InputCell
 pub mod ElfReading
+pub mod Written
+pub mod Symbols
+pub mod Seen

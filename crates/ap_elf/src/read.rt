@@ -40,7 +40,7 @@ pub fn entry(b: &[u8], h: &Header, i: u16) -> Entry
 }
 
 /// The `count` program headers that follow each other from the place `at` on.
-#[tactic(auto, using(crate::proofs::Tables::table_steps))]
+#[tactic(auto, using(crate::proofs::EntryTables::table_steps))]
 pub fn entries(b: &[u8], at: usize, count: u16) -> ArrayVec<Entry, 64>
     requires table { at + 56 * count ≤ length b.now }
     requires few { count ≤ 64 }

@@ -2,6 +2,8 @@
 use crate::*;
 use std::test::Fail;
 
+mod symbols;
+
 const PROGRAM: &[u8] = b"\x7fELF\x02\x01\x01\0\0\0\0\0\0\0\0\0\
     \x02\0\x3e\0\x01\0\0\0\0\x10\x40\0\0\0\0\0\x40\0\0\0\0\0\0\0\0\0\0\0\0\0\0\0\
     \0\0\0\0\x40\0\x38\0\x01\0\x40\0\x03\0\x02\0\
@@ -44,4 +46,15 @@ fn headers_are_read(rt: HostRuntime) -> Result<(), Fail> {
     assert_eq!(rt; entry(PROGRAM, &h, 0), load);
     assert_eq!(rt; entries(PROGRAM, 64, 1).as_slice(), [load].as_slice());
     Ok(())
+}
+
+#[test]
+fn headers_are_written(rt: HostRuntime) {
+    let h = header(PROGRAM);
+    assert!(rt; h.e_phnum == 1 && h.e_phoff == 64);
+    assert_eq!(rt; header_bytes(&h).as_slice(), &PROGRAM[..64]);
+    assert_eq!(rt;
+        entry_bytes(&entry(PROGRAM, &h, 0)).as_slice(),
+        &PROGRAM[64..]
+    );
 }

@@ -1,4 +1,5 @@
-// The two structures at a file's front, field by field (System V gABI, "ELF Header" and "Program Header").
+// The structures of an ELF file, field by field (System V gABI, "ELF Header", "Sections", "Symbol Table" and "Program
+// Header"), and where its symbols are.
 
 /// The ELF header, 64 bytes from the file's start.
 #[derive(Clone, Copy, Debug, Default, PartialEq, Eq)]
@@ -52,4 +53,58 @@ pub struct Entry {
     pub memsz: u64,
     /// Its alignment in the file and in memory.
     pub align: u64,
+}
+
+/// What is looked at of a section header, 64 bytes.
+#[derive(Clone, Copy)]
+pub(crate) struct Section {
+    /// What the section is (`sh_type`): 2 for a symbol table, 3 for strings.
+    pub kind: u32,
+    /// The place of its first byte in the file.
+    pub offset: u64,
+    /// How many bytes it has.
+    pub size: u64,
+    /// The number of another section, counted from 0: of a symbol table, the one with the symbols' names.
+    pub link: u32,
+    /// The size of one of its entries in bytes.
+    pub entsize: u64,
+}
+
+/// What is looked at of a symbol, 24 bytes.
+#[derive(Clone, Copy)]
+pub(crate) struct Symbol {
+    /// The place of its name in the string table (`st_name`).
+    pub name: u32,
+    /// The number of its section (`st_shndx`), or 0 where it isn't defined.
+    pub section: u16,
+    /// Its value (`st_value`).
+    pub value: u64,
+}
+
+/// Where a file's symbol table and its string table are.
+#[derive(Clone, Copy, Debug, PartialEq, Eq)]
+pub struct Tables {
+    /// The place of the symbol table in the file.
+    pub at: u64,
+    /// The number of symbols, of 24 bytes each.
+    pub count: u64,
+    /// The place of the string table in the file.
+    pub strings: u64,
+    /// How many bytes the string table has.
+    pub length: u64,
+}
+
+/// What is found of a file's symbols.
+#[derive(Clone, Copy, Debug, PartialEq, Eq)]
+pub enum Located {
+    /// Sections or tables don't stand as they must.
+    Part {
+        /// What doesn't, from 1 to 7: the size of a section header, the range of their table; the symbol table's size of
+        /// an entry, range, and size; the string table's number and type, and its range.
+        part: u8,
+    },
+    /// There is no symbol table.
+    Missing,
+    /// The tables.
+    At(Tables),
 }

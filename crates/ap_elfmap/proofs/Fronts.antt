@@ -1,6 +1,6 @@
 -- The front of a file whose first bytes are replaced.
-use Rattle.std.proofs.Common.{◌≡◌, ℕ, ◌+◌, ◌*◌, ◌-◌, ◌≤◌, min, List, ◌++◌, length, take, drop, get_or, slice_index, refl, sym, ap, ◌∙◌, arith, inl, inr, length-drop, length-append}
-use Rattle.std.proofs.lemmas.List.{get_or-append_right, get_or-drop, get_or-take, take_all, length-take, length-take-le, take-append-drop}
+use Rattle.std.proofs.Common.{◌≡◌, ℕ, ◌+◌, ◌*◌, ◌-◌, ◌<◌, ◌≤◌, min, List, ◌++◌, length, take, drop, get_or, slice_index, refl, sym, ap, ◌∙◌, arith, inl, inr, length-drop, length-append}
+use Rattle.std.proofs.lemmas.List.{get_or_append_left, get_or-append_right, get_or-drop, get_or-take, take_all, length-take, length-take-le, take-append-drop}
 use Rattle.std.proofs.lemmas.Bool.{cases_lt}
 use Rattle.std.proofs.Math.Seq.{take-append-add}
 use Rattle.ap_fields.specs.Bytes.{over}
@@ -12,6 +12,14 @@ over-behind : (file first : List ℕ) (k : ℕ) → length first ≤ k → slice
 over-behind file first k h =
     let place : length first + (k - length first) ≡ k = omega arith in
     get_or-append_right first (drop (length first) file) (length first) k 0 refl h ∙ get_or-drop (length first) file (k - length first) 0 ∙ ap (λ (i : ℕ). get_or file i 0) place
+
+-- and in a front of it, too
+pub over-front : (file first : List ℕ) (count k : ℕ) → k < count → slice_index (over (take count file) first) k ≡ slice_index (over file first) k
+over-front file first count k h =
+    elim (cases_lt k (length first)) [
+      | inl low ↦ get_or_append_left first (drop (length first) (take count file)) 0 k low ∙ sym (get_or_append_left first (drop (length first) file) 0 k low)
+      | inr high ↦ over-behind (take count file) first k high ∙ get_or-take count file k 0 h ∙ sym (over-behind file first k high)
+    ]
 
 -- a table behind the first bytes
 pub entries-behind : (file first : List ℕ) (at n : ℕ) → length first ≤ at → entries_from file at n ≡ entries_from (over file first) at n

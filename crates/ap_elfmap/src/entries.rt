@@ -12,7 +12,7 @@ use ap_elf::{ElfCause, ElfFault, Entry, entries, is_dynamic};
 use arrayvec::ArrayVec;
 
 /// The bytes that a header and a program header table take at most, where the table begins in the header.
-const FRONT: usize = 64 + 56 * 64;
+pub const FRONT: usize = 64 + 56 * 64;
 
 /// The `count` program headers from `at` on of a file whose first 64 bytes are replaced by `header`.
 #[tactic(auto, using(crate::proofs::Fronts::front_steps))]

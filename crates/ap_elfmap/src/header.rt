@@ -1,5 +1,7 @@
-// What is asked of the header.
-ghost use Rattle.std.specs.Prelude.{◌≤◌, ◌+◌, ◌*◌, OnOk};
+// The header: that of a file whose first bytes are replaced, and what is asked of it.
+ghost use Rattle.std.specs.Prelude.{◌≡◌, ◌≤◌, ◌+◌, ◌*◌, OnOk};
+ghost use Rattle.ap_fields.specs.Bytes.{over};
+ghost use Rattle.ap_elf.specs.Fields.{header_of};
 ghost use Rattle.ap_elf.specs.ElfReading.{header_rules};
 ghost use Rattle.ap_elfmap.specs.ElfPlans.{Checks};
 
@@ -9,6 +11,14 @@ use ap_elf::ElfCause::{
 };
 use ap_elf::{ElfFault, Header};
 use ap_fields::le32;
+
+/// The header of a file whose first 64 bytes are replaced by `header`.
+#[tactic(auto, using(crate::proofs::Fronts::header_steps))]
+pub fn header_over(header: &[u8; 64], file: &[u8]) -> Header
+    ensures { result ≡ header_of (over file.now header.now) }
+{
+    ap_elf::header(header)
+}
 
 /// The rules of the header of a file of `size` bytes that is to be for a machine. Where they hold, the program header
 /// table lies in the file.

@@ -4,11 +4,14 @@
 
 mod entries;
 mod fault;
+mod file;
 mod header;
 mod loads;
+mod plan;
 mod reading;
 
 pub use ap_elf::{ElfCause, ElfFault};
+pub use file::read_with_in;
 pub use reading::{ElfReading, read_with};
 
 #[cfg(test)]

@@ -1,25 +1,22 @@
 // The reading of ELF files.
-ghost use Rattle.std.specs.Prelude.{◌≡◌, ◌++◌, ◌≤◌, ◌∷◌, [], nat_lt, length, map, IfOk};
+ghost use Rattle.std.specs.Prelude.{◌≡◌, length, IfOk};
 ghost use Rattle.ap_fields.specs.Bytes.{over};
-ghost use Rattle.ap_fields.specs.Granules.{IsGranule};
 ghost use Rattle.ap_fields.specs.Readings.{bytes_in};
-ghost use Rattle.ap_elf.specs.Fields.{header_of, entries_of, loads_in};
-ghost use Rattle.ap_elf.specs.ElfReading.{refusal, dynamic_rules, loads_rules, elf_rules, elf_reading_by, elf_reading};
-ghost use Rattle.ap_elf.specs.declared.fault.ElfCause.TheVariants as cause;
+ghost use Rattle.ap_elf.specs.Fields.{header_of, entries_of};
+ghost use Rattle.ap_elf.specs.ElfReading.{elf_reading_by, elf_reading};
 ghost use Rattle.ap_check.specs.Machines.{number_of};
 ghost use Rattle.ap_image.specs.Plans.{AreBacked};
 ghost use Rattle.ap_image.specs.Reading.{IsPlanOf};
-ghost use Rattle.ap_elfmap.specs.ElfPlans.{Checks, IsPage, Looks, region_of, elf_plan, elf_plan_by};
+ghost use Rattle.ap_elfmap.specs.ElfPlans.{IsPage, Looks, elf_plan, elf_plan_by};
 ghost use Rattle.ap_elfmap.specs.Laws.{cells-by, frame-elf, page-granule};
 
-use crate::entries::{check_dynamic, entries_over};
-use crate::fault::{check, fault};
-use crate::header::check_header;
-use crate::loads::regions;
+use crate::entries::entries_over;
+use crate::fault::fault;
+use crate::header::{check_header, header_over};
+use crate::plan::plan_by;
 use ap_check::Machine;
-use ap_elf::{ElfCause, ElfFault, Entry, Header, loads};
-use ap_image::{Plan, Reading, Region};
-use arrayvec::ArrayVec;
+use ap_elf::{ElfCause, ElfFault};
+use ap_image::{Plan, Reading};
 
 /// The reading of ELF files for a machine, at a page size of it: 4096 bytes, or also 16384 for AArch64.
 ///
@@ -60,6 +57,7 @@ impl Reading for ElfReading {
 /// The reading of a file whose first 64 bytes are replaced by `header`. The program header table is read in the replaced
 /// file, too, wherever it begins; the bytes that the plan's regions show are the file's own. A file of fewer than 64 bytes
 /// is `Short`.
+#[tactic(auto, using(ap_fields::proofs::FirstFaults::join_steps), unfolding(ap_elf::specs::Fields::entries_of))]
 pub fn read_with(
     machine: Machine,
     page: u64,
@@ -71,53 +69,9 @@ pub fn read_with(
     ensures image { IsPlanOf result file.now (elf_reading_by (number_of machine) page (length file.now) (header_of (over file.now header.now)) (entries_of (over file.now header.now)) (bytes_in file.now)) }
     ensures backed { IfOk result (λ plan. AreBacked plan.regions (length file.now)) }
 {
-    let h = header_over(header, file);
-    let regions = regions_over(&h, machine.number(), page, header, file)?;
-    Ok(Plan {
-        regions,
-        entry: h.e_entry,
-    })
-}
-
-// The header of such a file.
-#[tactic(auto, using(crate::proofs::Fronts::header_steps))]
-fn header_over(header: &[u8; 64], file: &[u8]) -> Header
-    ensures { result ≡ header_of (over file.now header.now) }
-{
-    ap_elf::header(header)
-}
-
-// The regions of the loads of such a file with the header `h`, or the first rule that it breaks.
-#[tactic(auto, using(ap_fields::proofs::FirstFaults::join_steps), unfolding(ap_elf::specs::Fields::entries_of))]
-fn regions_over(
-    h: &Header,
-    machine: u16,
-    page: u64,
-    header: &[u8; 64],
-    file: &[u8],
-) -> Result<ArrayVec<Region, 97>, ElfFault>
-    requires page { IsGranule page }
-    requires header { h.now ≡ header_of (over file.now header.now) }
-    ensures rules { Checks result (elf_rules machine page (length file.now) h.now (entries_of (over file.now header.now))) }
-    ensures regions { IfOk result (λ found. found.items ≡ map (region_of page (length file.now)) (loads_in (entries_of (over file.now header.now)))) }
-{
     let size = file.len() as u64;
-    check_header(h, size, machine)?;
+    let h = header_over(header, file);
+    check_header(&h, size, machine.number())?;
     let entries = entries_over(header, file, h.e_phoff as usize, h.e_phnum);
-    regions_of(&entries, size, page)
-}
-
-// The regions of the loads among program headers, or the first rule that these break.
-#[tactic(auto, using(ap_fields::proofs::FirstFaults::join_steps))]
-fn regions_of(entries: &[Entry], size: u64, page: u64) -> Result<ArrayVec<Region, 97>, ElfFault>
-    requires page { IsGranule page }
-    requires few { length entries.now ≤ 64 }
-    ensures rules { Checks result (dynamic_rules 1 entries.now ++ (loads_rules page size 1 0 (loads_in entries.now) ++ ((nat_lt 0 (length (loads_in entries.now)), refusal cause.NoLoad 0 0) ∷ []))) }
-    ensures regions { IfOk result (λ found. found.items ≡ map (region_of page size) (loads_in entries.now)) }
-{
-    check_dynamic(entries)?;
-    let loads = loads(entries);
-    let regions = regions(&loads, size, page)?;
-    check(&[(!loads.is_empty(), fault(ElfCause::NoLoad, 0, 0))])?;
-    Ok(regions)
+    plan_by(machine, page, size, &h, &entries)
 }

@@ -8,6 +8,7 @@ ghost use Rattle.ap_elfmap.specs.ElfPlans.{IsPage, Looks, elf_plan};
 
 use crate::*;
 use ap_check::Machine;
+use ap_files::SteadyFiles;
 use ap_image::{Perms, Reading, Region, cell, reads_alike};
 use bitflags::Flags;
 use std::process::Abort;
@@ -124,6 +125,21 @@ fn a_load_maps_its_pages(rt: HostRuntime) -> Result<(), Fail> {
 }
 
 #[test]
+fn a_file_is_read_by_its_name(rt: HostRuntime) -> Result<(), Fail> {
+    let file = edited(&rt, &[(1, 4096, 7)]);
+    let file = file.get(..SIZE).ok_or("too short")?;
+    let mut files = SteadyFiles::of("program", file);
+    let read = reading().read_in(&mut files, "program", 4112);
+    let plan = read.ok().ok_or("unread")?.ok().ok_or("refused")?;
+    assert_eq!(rt; plan.regions.len(), 1);
+    assert_eq!(rt;
+        cell(&plan, file, 0x401000),
+        Some((7, Perms::from_bits_retain(5)))
+    );
+    Ok(())
+}
+
+#[test]
 fn pages_of_aarch64_may_be_larger(rt: HostRuntime) -> Result<(), Fail> {
     let file = edited(&rt, &[(2, 18, 183), (8, 72, 0), (8, 80, 0x404000)]);
     let file = file.get(..SIZE).ok_or("too short")?;
@@ -164,6 +180,10 @@ fn a_header_from_elsewhere_brings_its_part_of_the_table(rt: HostRuntime) -> Resu
         .ok()
         .ok_or("refused")?;
     let data = Perms::from_bits_retain(6);
+    assert_eq!(rt; cell(&plan, file, 0x401000), Some((b'#', data)));
+    let mut files = SteadyFiles::of("program", file);
+    let read = read_with_in(Machine::X64, 4096, header, &mut files, "program", 4112);
+    let plan = read.ok().ok_or("unread")?.ok().ok_or("refused")?;
     assert_eq!(rt; cell(&plan, file, 0x401000), Some((b'#', data)));
     let short = read_with(Machine::X64, 4096, header, b"#").err();
     let fault = ElfFault {

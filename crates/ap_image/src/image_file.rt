@@ -35,11 +35,18 @@ pub fn dump(alloc: Global, plan: &Plan, file: &[u8]) -> Result<Vec<u8>, DumpFaul
     ensures wide { 2 ^ 30 < total_of plan.now.regions → result ≡ Err (DumpFault.Wide (total_of plan.now.regions)) }
     ensures narrow { IfErr result (λ fault. total_of plan.now.regions ≤ 2 ^ 30 → fault ≡ DumpFault.NoMemory) }
 {
-    let total = total(plan.regions.as_slice());
+    let total = address_count(plan);
     if total > 1 << 30 {
         return Err(DumpFault::Wide { total });
     }
     written(alloc, plan, file).map_err(|_| DumpFault::NoMemory)
+}
+
+/// How many addresses the regions of a plan have.
+pub fn address_count(plan: &Plan) -> u64
+    ensures { result ≡ total_of plan.now.regions }
+{
+    total(plan.regions.as_slice())
 }
 
 #[tactic(auto, using(crate::proofs::Totals::total_steps))]

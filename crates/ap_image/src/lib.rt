@@ -10,7 +10,7 @@ mod reading;
 mod run;
 
 pub use cells::cell;
-pub use image_file::{DumpFault, dump};
+pub use image_file::{DumpFault, address_count, dump};
 pub use perms::Perms;
 pub use plan::{Plan, Region};
 pub use reading::{Reading, reads_alike};

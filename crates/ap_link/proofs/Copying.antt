@@ -6,9 +6,11 @@ use Rattle.ap_fields.specs.Readings.{bytes_in}
 use Rattle.ap_files.specs.Files.{FileMap, FileState, Rose, KeepsCounts, ForFile, IsPresent, HasRange, ReadsAt}
 use Rattle.ap_files.specs.declared.failure.Failed.{Failed}
 use Rattle.ap_files.proofs.ReadLemmas.{some_same}
-use Rattle.ap_link.specs.Transfers.{Grows, Appends, Puts, part_of}
+use Rattle.ap_files.specs.Appends.{Grows, Appends}
+use Rattle.ap_link.specs.Transfers.{Puts, part_of}
 use Rattle.ap_link.specs.declared.copy.CopyFault.TheVariants.{Read, Write}
-use Rattle.ap_link.proofs.Growing.{range-added, told-added, present-added, grows-again, counts-again, part-more, part-front, front-longer}
+use Rattle.ap_files.proofs.Growing.{range-added, told-added, present-added, grows-again, counts-again}
+use Rattle.ap_link.proofs.PartLemmas.{part-more, part-front, front-longer}
 
 -- how far a copy has come
 pub record Copying (old now : FileState) (input out : List ℕ) (from count done : ℕ) : Type 0 where

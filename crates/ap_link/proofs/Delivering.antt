@@ -1,147 +1,194 @@
--- The parts of a linked file, and the file.
-use Rattle.std.proofs.Common.{◌≡◌, ◌⊎◌, inl, inr, ℕ, zero, suc, ◌+◌, ◌-◌, ◌%◌, ◌<◌, ◌≤◌, ◌==◌, true, false, cond, List, [], ◌∷◌, ◌++◌, take, Option, None, Result, Ok, Err, refl, sym, ap, ◌∙◌, subst, arith, append_assoc}
+-- How a link of inputs that were taken ends.
+use Rattle.std.proofs.Common.{◌≡◌, ◌≢◌, ◌⊎◌, inl, inr, ℕ, List, ◌++◌, length, take, IfSome, Option, Some, None, Result, Ok, Err, refl, sym, ap, ◌∙◌, subst, arith}
 use Rattle.std.proofs.lemmas.Bool.Decides.{nat_tests}
-use Rattle.ap_fields.specs.Bytes.{zeros, listed}
-use Rattle.ap_fields.specs.Readings.{bytes_in}
-use Rattle.ap_fields.specs.Granules.{ceil_of}
-use Rattle.ap_files.specs.Files.{FileMap, FileState, ForFile, HasRange, with_file}
-use Rattle.ap_files.specs.Reads.{HasFile, HasSize}
-use Rattle.ap_elf.specs.declared.types.Entry.{Entry}
+use Rattle.ap_fields.specs.FirstFault.{first_fault}
+use Rattle.ap_files.specs.Files.{FileMap, FileState, with_file}
+use Rattle.ap_check.specs.declared.fault.Fault.{Fault}
+use Rattle.ap_check.specs.declared.options.Systems.{Systems}
+use Rattle.ap_check.specs.Machines.{number_of}
 use Rattle.ap_check.specs.Inputs.{Taken, input_of}
-use Rattle.ap_check.specs.Rules.{first_fault_of}
+use Rattle.ap_check.specs.Both.{machines_rules, pair_rules, first_fault_of_both, IsTakenOf, AreTakenOf}
+use Rattle.ap_check.proofs.Laws.{input_meets}
+use Rattle.ap_check.proofs.Pairs.{pair-says}
+use Rattle.ap_layout.specs.Positions.{Positions, positions_of, inputs_of}
+use Rattle.ap_script.specs.Blocks.{block_of}
 use Rattle.ap_link.specs.declared.copy.CopyFault.{CopyFault}
 use Rattle.ap_link.specs.declared.copy.CopyFault.TheVariants.{Read, Write}
-use Rattle.ap_link.specs.declared.stream.LinkEnd.{LinkEnd}
-use Rattle.ap_link.specs.declared.stream.LinkEnd.TheVariants as end
-use Rattle.ap_link.specs.Transfers.{Makes, part_of}
-use Rattle.ap_link.specs.Linkable.{IsLinkable}
-use Rattle.ap_link.specs.Linked.{block_of, area_of, linked_by, linked_of, zeros_before, zeros_behind, part_start}
-use Rattle.ap_link.specs.Answers.{IsLinked, LinksFile, Delivers, end_of}
-use Rattle.ap_link.proofs.Areas.{area_of-some, area_of-none}
-use Rattle.ap_link.proofs.Inputs.{linked}
+use Rattle.ap_link.specs.declared.end.LinkEnd.{LinkEnd}
+use Rattle.ap_link.specs.declared.end.LinkEnd.TheVariants as end
+use Rattle.ap_link.specs.declared.source.Source.{Source}
+use Rattle.ap_link.specs.Linked.{block_for, tail_of, second_of, taken_second, linked_of}
+use Rattle.ap_link.specs.Answers.{IsLinked}
+use Rattle.ap_link.specs.FileAnswers.{HasInputs, HasFront, LinksFiles}
+use Rattle.ap_link.specs.Sources.{second_name, second_taken, second_bytes, IsSource, end_of_copy}
+use Rattle.ap_link.specs.Transfers.{ForInputs, Makes}
+use Rattle.ap_link.proofs.LinkedFiles.{AreLinkable, file-linked, file-length}
 
-zeros-none : zeros 0 ≡ []
-unfolding zeros
-zeros-none = refl
+-- ---- what is told of inputs
 
-zero_or : (n : ℕ) → (n ≡ 0) ⊎ ((0 < n) × ((n == 0) ≡ false))
-zero_or zero = inl refl
-zero_or (suc n) = inr (omega arith, grind (arith, nat_tests))
+pub inputs-have : (P Q : List ℕ → Option (List ℕ) → Type 0) (kept : Option FileMap) (first : List ℕ) (second : Option (List ℕ)) → ((a : List ℕ) (b : Option (List ℕ)) → P a b → Q a b) → HasInputs kept first second P → HasInputs kept first second Q
+inputs-have P Q kept first None f h = λ m k. let t = h m k in (t.0, t.1, f t.0 None t.2)
+inputs-have P Q kept first (Some n) f h = λ m k. let t = h m k in (t.0, t.1, λ m' k'. let u = t.2 m' k' in (u.0, u.1, f t.0 (Some u.0) u.2))
 
-bare : (byte : ℕ → ℕ) (p : Entry) → p.filesz ≡ 0 → zeros (zeros_before p) ++ (listed byte (part_start p) p.filesz ++ zeros (zeros_behind p)) ≡ area_of byte p
-bare byte p none =
-    let t : (p.filesz == 0) ≡ true = grind (arith, nat_tests) in
-    let a : zeros_before p ≡ 0 = ap (λ b. cond b 0 (p.vaddr % 4096)) t in
-    let b : zeros_behind p ≡ 0 = ap (λ b. cond b 0 (ceil_of (p.vaddr % 4096 + p.filesz) 4096 - (p.vaddr % 4096 + p.filesz))) t in
-    ap (λ n. zeros n ++ (listed byte (part_start p) p.filesz ++ zeros (zeros_behind p))) a
-    ∙ ap (λ n. zeros 0 ++ (listed byte (part_start p) p.filesz ++ zeros n)) b
-    ∙ ap (λ n. zeros 0 ++ (listed byte (part_start p) n ++ zeros 0)) none
-    ∙ ap (λ z. z ++ z) zeros-none
-    ∙ sym (area_of-none byte p none)
+pub inputs-both : (P Q : List ℕ → Option (List ℕ) → Type 0) (kept : Option FileMap) (first : List ℕ) (second : Option (List ℕ)) → HasInputs kept first second P → ForInputs kept first second Q
+    → HasInputs kept first second (λ a b. P a b × Q a b)
+inputs-both P Q kept first None h q = λ m k. let t = h m k in (t.0, t.1, (t.2, q m t.0 k t.1))
+inputs-both P Q kept first (Some n) h q = λ m k. let t = h m k in (t.0, t.1, λ m' k'. let u = t.2 m' k' in (u.0, u.1, (u.2, q m t.0 k t.1 m' u.0 k' u.1)))
 
-filled : (byte : ℕ → ℕ) (p : Entry) → 0 < p.filesz → (p.filesz == 0) ≡ false → zeros (zeros_before p) ++ (listed byte (part_start p) p.filesz ++ zeros (zeros_behind p)) ≡ area_of byte p
-filled byte p some t =
-    let a : zeros_before p ≡ p.vaddr % 4096 = ap (λ b. cond b 0 (p.vaddr % 4096)) t in
-    let b : zeros_behind p ≡ ceil_of (p.vaddr % 4096 + p.filesz) 4096 - (p.vaddr % 4096 + p.filesz) = ap (λ b. cond b 0 (ceil_of (p.vaddr % 4096 + p.filesz) 4096 - (p.vaddr % 4096 + p.filesz))) t in
-    let s : part_start p ≡ p.offset = ap (λ b. cond b 0 p.offset) t in
-    ap (λ n. zeros n ++ (listed byte (part_start p) p.filesz ++ zeros (zeros_behind p))) a
-    ∙ ap (λ n. zeros (p.vaddr % 4096) ++ (listed byte n p.filesz ++ zeros (zeros_behind p))) s
-    ∙ ap (λ n. zeros (p.vaddr % 4096) ++ (listed byte p.offset p.filesz ++ zeros n)) b
-    ∙ sym (area_of-some byte p some)
+-- the inputs are there, and were taken of their bytes
+pub sources-taken : (kept : Option FileMap) (first : Source) (second : Option Source) → IsSource kept 1 first → IfSome second (λ s. IsSource kept 2 s)
+    → HasInputs kept first.name.now (second_name second) (λ a b. AreTakenOf a b first.input.now (second_taken second))
+sources-taken kept first None h k = h.told
+sources-taken kept first (Some s) h k = λ m e. let t = h.told m e in (t.0, t.1, λ m' e'. let u = k.told m' e' in (u.0, u.1, (t.2, u.2)))
 
--- the parts together
-pub parts-whole : (entry : ℕ) (p : Entry) (b : List ℕ) → (block_of entry p ++ zeros (zeros_before p)) ++ (part_of (part_start p) p.filesz b ++ zeros (zeros_behind p)) ≡ linked_by (bytes_in b) entry p
-unfolding linked_by
-parts-whole entry p b =
-    append_assoc (block_of entry p) (zeros (zeros_before p)) (part_of (part_start p) p.filesz b ++ zeros (zeros_behind p))
-    ∙ ap (λ r. block_of entry p ++ r) (elim (zero_or p.filesz) [ inl none ↦ bare (bytes_in b) p none | inr some ↦ filled (bytes_in b) p some.0 some.1 ])
+-- ---- inputs that meet all rules
+
+machines-differ : (n m : ℕ) → first_fault (machines_rules n m) ≡ None → n ≢ m
+machines-differ n m none same = grind (arith, nat_tests)
+
+linked-is : (systems : Systems) (a : List ℕ) (b : Option (List ℕ)) → linked_of systems a b ≡ block_for systems (input_of 1 a) (taken_second b) ++ tail_of (input_of 1 a) a (second_of b)
+unfolding linked_of
+linked-is systems a b = refl
+
+-- what stands of the bytes of such inputs
+pub record IsReady (systems : Systems) (e : Taken) (second : Option Source) (a : List ℕ) (b : Option (List ℕ)) : Type 0 where
+  pub none : first_fault_of_both a b ≡ None
+  pub bytes : block_for systems e (second_taken second) ++ tail_of e a (second_bytes second b) ≡ linked_of systems a b
+  pub linked : IsLinked systems a b (linked_of systems a b)
+  pub size : (positions_of e (second_taken second)).total ≡ length (linked_of systems a b)
+
+one-ready : (systems : Systems) (e : Taken) (a : List ℕ) → IsTakenOf 1 a e → first_fault_of_both a None ≡ None → IsReady systems e None a None
+one-ready systems e a is none =
+    let able : AreLinkable (input_of 1 a) None = record { first = input_meets 1 a is.0; second = tt; differ = tt } in
+    record {
+      none = none;
+      bytes = ap (λ (x : Taken). block_for systems x None ++ tail_of x a None) is.1 ∙ sym (linked-is systems a None);
+      linked = file-linked systems a None able;
+      size = ap (λ (x : Taken). (positions_of x None).total) is.1 ∙ sym (file-length systems (input_of 1 a) a None able) ∙ sym (ap length (linked-is systems a None));
+    }
+
+two-ready : (systems : Systems) (e : Taken) (s : Source) (a b : List ℕ) → IsTakenOf 1 a e → IsTakenOf 2 b s.input.now → first_fault (pair_rules e (Some s.input.now)) ≡ None → first_fault_of_both a (Some b) ≡ None
+    → IsReady systems e (Some s) a (Some b)
+two-ready systems e s a b is and pair none =
+    let f : Taken = s.input.now in
+    let apart : e.machine ≢ f.machine = λ same. machines-differ (number_of e.machine) (number_of f.machine) pair (ap number_of same) in
+    let able : AreLinkable (input_of 1 a) (Some (input_of 2 b)) = record {
+      first = input_meets 1 a is.0;
+      second = input_meets 2 b and.0;
+      differ = λ same. apart (ap (λ (x : Taken). x.machine) is.1 ∙ same ∙ sym (ap (λ (x : Taken). x.machine) and.1));
+    } in
+    record {
+      none = none;
+      bytes = ap (λ (x : Taken). block_for systems x (Some f) ++ tail_of x a (Some (f, b))) is.1
+          ∙ ap (λ (x : Taken). block_for systems (input_of 1 a) (Some x) ++ tail_of (input_of 1 a) a (Some (x, b))) and.1
+          ∙ sym (linked-is systems a (Some b));
+      linked = file-linked systems a (Some b) able;
+      size = ap (λ (x : Taken). (positions_of x (Some f)).total) is.1
+          ∙ ap (λ (x : Taken). (positions_of (input_of 1 a) (Some x)).total) and.1
+          ∙ sym (file-length systems (input_of 1 a) a (Some (input_of 2 b, b)) able) ∙ sym (ap length (linked-is systems a (Some b)));
+    }
+
+ready : (systems : Systems) (e : Taken) (second : Option Source) (a : List ℕ) (b : Option (List ℕ)) → first_fault (pair_rules e (second_taken second)) ≡ None → AreTakenOf a b e (second_taken second) → IsReady systems e second a b
+ready systems e None a None pair is = one-ready systems e a is (pair-says a None e None is ∙ pair)
+ready systems e None a (Some b) pair is = absurd is
+ready systems e (Some s) a None pair is = absurd is
+ready systems e (Some s) a (Some b) pair is = two-ready systems e s a b is.0 is.1 pair (pair-says a (Some b) e (Some s.input.now) is ∙ pair)
+
+-- ---- the ends
+
+abbrev pub whole-of : Systems → Taken → Option Source → List ℕ → Option (List ℕ) → List ℕ
+whole-of systems e second a b = block_for systems e (second_taken second) ++ tail_of e a (second_bytes second b)
+
+all-ready : (systems : Systems) (kept : Option FileMap) (first : Source) (second : Option Source) → IsSource kept 1 first → IfSome second (λ s. IsSource kept 2 s)
+    → first_fault (pair_rules first.input.now (second_taken second)) ≡ None
+    → HasInputs kept first.name.now (second_name second) (λ a b. IsReady systems first.input.now second a b)
+all-ready systems kept first second h k pair =
+    inputs-have (λ a b. AreTakenOf a b first.input.now (second_taken second)) (λ a b. IsReady systems first.input.now second a b) kept first.name.now (second_name second)
+    (λ a b is. ready systems first.input.now second a b pair is) (sources-taken kept first second h k)
+
+-- a front of the file
+front-is : (systems : Systems) (old new : FileState) (name : List ℕ) (e : Taken) (second : Option Source) (out bytes : List ℕ) → HasInputs old.kept name (second_name second) (λ a b. IsReady systems e second a b)
+    → new.kept ≡ with_file old.kept out bytes → ForInputs old.kept name (second_name second) (λ a b. (n : ℕ) × (bytes ≡ take n (whole-of systems e second a b)))
+    → HasFront systems old new name (second_name second) out
+front-is systems old new name e second out bytes has kept told =
+    inputs-have (λ a b. IsReady systems e second a b × ((n : ℕ) × (bytes ≡ take n (whole-of systems e second a b))))
+    (λ a b. (first_fault_of_both a b ≡ None) × ((n : ℕ) × (new.kept ≡ with_file old.kept out (take n (linked_of systems a b))))) old.kept name (second_name second)
+    (λ a b t. (t.0.none, (t.1.0, kept ∙ ap (with_file old.kept out) (t.1.1 ∙ ap (take t.1.0) t.0.bytes))))
+    (inputs-both (λ a b. IsReady systems e second a b) (λ a b. (n : ℕ) × (bytes ≡ take n (whole-of systems e second a b))) old.kept name (second_name second) has told)
+
+-- the file was made
+made : (systems : Systems) (old new : FileState) (name : List ℕ) (e : Taken) (second : Option Source) (out : List ℕ) (n : ℕ) → HasInputs old.kept name (second_name second) (λ a b. IsReady systems e second a b)
+    → n ≡ (positions_of e (second_taken second)).total → Makes old new name (second_name second) out (whole-of systems e second) (Ok tt) → LinksFiles systems old new name (second_name second) out (Ok n)
+made systems old new name e second out n has is m = record {
+  counts = m.0;
+  unfinished = m.1;
+  linked = inputs-have (λ a b. IsReady systems e second a b × (m.2.0 ≡ whole-of systems e second a b))
+      (λ a b. (first_fault_of_both a b ≡ None) × (new.kept ≡ with_file old.kept out (linked_of systems a b)) × IsLinked systems a b (linked_of systems a b)) old.kept name (second_name second)
+      (λ a b t. (t.0.none, m.2.1 ∙ ap (with_file old.kept out) (t.1 ∙ t.0.bytes), t.0.linked))
+      (inputs-both (λ a b. IsReady systems e second a b) (λ a b. m.2.0 ≡ whole-of systems e second a b) old.kept name (second_name second) has m.2.2);
+  size = inputs-have (λ a b. IsReady systems e second a b) (λ a b. n ≡ length (linked_of systems a b)) old.kept name (second_name second) (λ a b t. is ∙ t.size) has;
+}
+
+-- it wasn't
+unmade : (systems : Systems) (old new : FileState) (name : List ℕ) (e : Taken) (second : Option Source) (out : List ℕ) (f : CopyFault) → HasInputs old.kept name (second_name second) (λ a b. IsReady systems e second a b)
+    → Makes old new name (second_name second) out (whole-of systems e second) (Err f) → LinksFiles systems old new name (second_name second) out (Err (end_of_copy f))
+unmade systems old new name e second out Read has m = inr (m.0, front-is systems old new name e second out m.1.0 has m.1.1 m.1.2)
+unmade systems old new name e second out Write has m = (
+  m.0,
+  elim m.1 [
+    | inl same ↦
+        inputs-have (λ a b. IsReady systems e second a b)
+        (λ a b. (first_fault_of_both a b ≡ None) × ((new.kept ≡ old.kept) ⊎ ((n : ℕ) × (new.kept ≡ with_file old.kept out (take n (linked_of systems a b)))))) old.kept name (second_name second)
+        (λ a b t. (t.none, inl same)) has
+    | inr h ↦
+        inputs-have (λ a b. (first_fault_of_both a b ≡ None) × ((n : ℕ) × (new.kept ≡ with_file old.kept out (take n (linked_of systems a b)))))
+        (λ a b. (first_fault_of_both a b ≡ None) × ((new.kept ≡ old.kept) ⊎ ((n : ℕ) × (new.kept ≡ with_file old.kept out (take n (linked_of systems a b)))))) old.kept name (second_name second)
+        (λ a b t. (t.0, inr t.1)) (front-is systems old new name e second out h.0 has h.1 h.2)
+  ],
+)
 
 -- a file made of other bytes that are the same
-pub makes-same : (old new : FileState) (input out : List ℕ) (f g : List ℕ → List ℕ) (r : Result (Unit {0}) CopyFault) → ((b : List ℕ) → f b ≡ g b) → Makes old new input out f r → Makes old new input out g r
-makes-same old new input out f g (Ok x) e m = (m.0, m.1, (m.2.0, m.2.1, λ k b t a. m.2.2 k b t a ∙ e b))
-makes-same old new input out f g (Err Read) e m = (m.0, (m.1.0, m.1.1, λ k b t a. let x = m.1.2 k b t a in (x.0, x.1 ∙ ap (take x.0) (e b))))
-makes-same old new input out f g (Err Write) e m = (
-  m.0,
-  elim m.1 [ inl same ↦ inl same | inr h ↦ inr (h.0, h.1, λ k b t a. let x = h.2 k b t a in (x.0, x.1 ∙ ap (take x.0) (e b))) ],
-)
+pub makes-same : (old new : FileState) (first : List ℕ) (second : Option (List ℕ)) (out x y : List ℕ) (tail : List ℕ → Option (List ℕ) → List ℕ) (r : Result (Unit {0}) CopyFault) → x ≡ y
+    → Makes old new first second out (λ a b. x ++ tail a b) r → Makes old new first second out (λ a b. y ++ tail a b) r
+makes-same old new first second out x y tail r is m = subst (λ z. Makes old new first second out (λ a b. z ++ tail a b) r) is m
 
--- the parts that were at hand
-pub makes-linked : (old new : FileState) (input out front behind : List ℕ) (entry from : ℕ) (p : Entry) (r : Result (Unit {0}) CopyFault)
-    → front ≡ block_of entry p ++ zeros (zeros_before p) → from ≡ part_start p → behind ≡ zeros (zeros_behind p)
-    → Makes old new input out (λ b. front ++ (part_of from p.filesz b ++ behind)) r → Makes old new input out (λ b. linked_by (bytes_in b) entry p) r
-makes-linked old new input out front behind entry from p r f s z m =
-    makes-same old new input out (λ b. front ++ (part_of from p.filesz b ++ behind)) (λ b. linked_by (bytes_in b) entry p) r
-    (λ b. ap (λ x. x ++ (part_of from p.filesz b ++ behind)) f
-    ∙ ap (λ n. (block_of entry p ++ zeros (zeros_before p)) ++ (part_of n p.filesz b ++ behind)) s
-    ∙ ap (λ y. (block_of entry p ++ zeros (zeros_before p)) ++ (part_of (part_start p) p.filesz b ++ y)) z
-    ∙ parts-whole entry p b) m
+pub links-made : (systems : Systems) (old new : FileState) (first : Source) (second : Option Source) (out block : List ℕ) (n : ℕ) → IsSource old.kept 1 first → IfSome second (λ s. IsSource old.kept 2 s)
+    → first_fault (pair_rules first.input.now (second_taken second)) ≡ None → block ≡ block_for systems first.input.now (second_taken second) → n ≡ (positions_of first.input.now (second_taken second)).total
+    → Makes old new first.name.now (second_name second) out (λ a b. block ++ tail_of first.input.now a (second_bytes second b)) (Ok tt)
+    → LinksFiles systems old new first.name.now (second_name second) out (Ok n)
+links-made systems old new first second out block n h k pair is total m =
+    made systems old new first.name.now first.input.now second out n (all-ready systems old.kept first second h k pair) total
+    (makes-same old new first.name.now (second_name second) out block (block_for systems first.input.now (second_taken second)) (λ a b. tail_of first.input.now a (second_bytes second b)) (Ok tt) is m)
 
-delivers-fault : (old new : FileState) (input out : List ℕ) (entry : ℕ) (p : Entry) (f : CopyFault) → Makes old new input out (λ b. linked_by (bytes_in b) entry p) (Err f) → Delivers old new input out entry p (Err (end_of f))
-delivers-fault old new input out entry p Read m = m
-delivers-fault old new input out entry p Write m = m
+pub links-unmade : (systems : Systems) (old new : FileState) (first : Source) (second : Option Source) (out block : List ℕ) (f : CopyFault) (e : LinkEnd) → IsSource old.kept 1 first → IfSome second (λ s. IsSource old.kept 2 s)
+    → first_fault (pair_rules first.input.now (second_taken second)) ≡ None → block ≡ block_for systems first.input.now (second_taken second) → e ≡ end_of_copy f
+    → Makes old new first.name.now (second_name second) out (λ a b. block ++ tail_of first.input.now a (second_bytes second b)) (Err f)
+    → LinksFiles systems old new first.name.now (second_name second) out (Err e)
+links-unmade systems old new first second out block f e h k pair is ends m =
+    subst (λ x. LinksFiles systems old new first.name.now (second_name second) out (Err x)) (sym ends)
+    (unmade systems old new first.name.now first.input.now second out f (all-ready systems old.kept first second h k pair)
+    (makes-same old new first.name.now (second_name second) out block (block_for systems first.input.now (second_taken second)) (λ a b. tail_of first.input.now a (second_bytes second b)) (Err f) is m))
 
-pub delivers-as : (old new : FileState) (input out : List ℕ) (entry : ℕ) (p : Entry) (f : CopyFault) (e : LinkEnd) → e ≡ end_of f → Makes old new input out (λ b. linked_by (bytes_in b) entry p) (Err f) → Delivers old new input out entry p (Err e)
-delivers-as old new input out entry p f e is m = subst (λ x. Delivers old new input out entry p (Err x)) (sym is) (delivers-fault old new input out entry p f m)
+-- the inputs break a rule together
+pub links-refused : (systems : Systems) (old : FileState) (first : Source) (second : Option Source) (out : List ℕ) (f : Fault) → IsSource old.kept 1 first → IfSome second (λ s. IsSource old.kept 2 s)
+    → ((a : List ℕ) (b : Option (List ℕ)) → AreTakenOf a b first.input.now (second_taken second) → first_fault_of_both a b ≡ Some f)
+    → LinksFiles systems old old first.name.now (second_name second) out (Err (end.Rule f))
+links-refused systems old first None out f h k says = (refl, λ m e. let t = h.told m e in (t.0, t.1, inr (t.2.0, says t.0 None t.2)))
+links-refused systems old first (Some s) out f h k says =
+    (refl, λ m e. let t = h.told m e in (t.0, t.1, inr (t.2.0, λ m' e'. let u = k.told m' e' in (u.0, u.1, says t.0 (Some u.0) (t.2, u.2)))))
 
--- the part of the input lies in it
-pub part-range : (kept : Option FileMap) (input : List ℕ) (size : ℕ) (p : Entry) → HasSize kept input size → (0 < p.filesz → p.offset + p.filesz ≤ size) → HasRange kept input (part_start p) p.filesz
-part-range kept input size p has part m told =
-    let t = has m told in
-    elim (zero_or p.filesz) [
-      | inl none ↦ (t.0, t.1, (let z : (p.filesz == 0) ≡ true = grind (arith, nat_tests) in let s : part_start p ≡ 0 = ap (λ b. cond b 0 p.offset) z in omega arith))
-      | inr some ↦ (t.0, t.1, (let s : part_start p ≡ p.offset = ap (λ b. cond b 0 p.offset) some.1 in let h = part some.0 in let l = t.2 in omega arith))
-    ]
+-- ---- what a job gives, by its inputs
 
-pub part-small : (size : ℕ) (p : Entry) → size ≤ 268435456 → (0 < p.filesz → p.offset + p.filesz ≤ size) → part_start p + p.filesz ≤ 268435456
-part-small size p most part =
-    elim (zero_or p.filesz) [
-      | inl none ↦ (let z : (p.filesz == 0) ≡ true = grind (arith, nat_tests) in let s : part_start p ≡ 0 = ap (λ b. cond b 0 p.offset) z in omega arith)
-      | inr some ↦ (let s : part_start p ≡ p.offset = ap (λ b. cond b 0 p.offset) some.1 in let h = part some.0 in omega arith)
-    ]
+pub positions-as : (l : Positions) (e x : Taken) (o y : Option Taken) → l ≡ positions_of x y → x ≡ e → y ≡ o → l ≡ positions_of e o
+positions-as l e x o y is h k = is ∙ ap (λ z. positions_of z y) h ∙ ap (positions_of e) k
 
--- how the link ends, by how its file was made
-made-by : (old : FileState) (input : List ℕ) (i : Taken) (entry : ℕ) (p : Entry) → HasFile old.kept input (λ b. (first_fault_of 1 b ≡ None) × (i ≡ input_of 1 b)) → entry ≡ i.entry → i.loads ≡ p ∷ [] → IsLinkable entry p
-    → HasFile old.kept input (λ b. (first_fault_of 1 b ≡ None) × (linked_by (bytes_in b) entry p ≡ linked_of b) × IsLinked b (linked_of b))
-made-by old input i entry p has start one h m told =
-    let t = has m told in
-    let is = linked t.0 (linked_by (bytes_in t.0) entry p) i entry p t.2.1 start one h refl in
-    (t.0, t.1, (t.2.0, is.bytes, subst (λ w. IsLinked t.0 w) is.bytes is))
+pub block-as : (block : List ℕ) (systems s : Systems) (l : Positions) (e x : Taken) (o y : Option Taken) → block ≡ block_of s (inputs_of x y) l → s ≡ systems → l ≡ positions_of x y → x ≡ e → y ≡ o → block ≡ block_for systems e o
+block-as block systems s l e x o y is t p h k =
+    is ∙ ap (λ z. block_of z (inputs_of x y) l) t ∙ ap (block_of systems (inputs_of x y)) p ∙ ap (λ z. block_for systems z y) h ∙ ap (block_for systems e) k
 
-front-told : (old : FileState) (input out : List ℕ) (entry : ℕ) (p : Entry) (bytes : List ℕ) (new : FileState)
-    → HasFile old.kept input (λ b. (first_fault_of 1 b ≡ None) × (linked_by (bytes_in b) entry p ≡ linked_of b) × IsLinked b (linked_of b))
-    → new.kept ≡ with_file old.kept out bytes → ForFile old.kept input (λ b. (n : ℕ) × (bytes ≡ take n (linked_by (bytes_in b) entry p)))
-    → HasFile old.kept input (λ b. (first_fault_of 1 b ≡ None) × ((n : ℕ) × (new.kept ≡ with_file old.kept out (take n (linked_of b)))))
-front-told old input out entry p bytes new has kept told m k =
-    let t = has m k in
-    let f = told m t.0 k t.1 in
-    (t.0, t.1, (t.2.0, (f.0, kept ∙ ap (with_file old.kept out) (f.1 ∙ ap (take f.0) t.2.1))))
+pub pair-as : (e : Taken) (o y : Option Taken) → first_fault (pair_rules e y) ≡ None → y ≡ o → first_fault (pair_rules e o) ≡ None
+pair-as e o y h k = ap (λ z. first_fault (pair_rules e z)) (sym k) ∙ h
 
-ends-of : (old new : FileState) (input out : List ℕ) (entry : ℕ) (p : Entry) (r : Result (Unit {0}) LinkEnd)
-    → HasFile old.kept input (λ b. (first_fault_of 1 b ≡ None) × (linked_by (bytes_in b) entry p ≡ linked_of b) × IsLinked b (linked_of b))
-    → Delivers old new input out entry p r → LinksFile old new input out r
-ends-of old new input out entry p (Ok x) has d = record {
-  counts = d.0;
-  unfinished = d.1;
-  linked = λ m k.
-      let t = has m k in
-      let all = d.2.2 m t.0 k t.1 in
-      (t.0, t.1, (t.2.0, d.2.1 ∙ ap (with_file old.kept out) (all ∙ t.2.1), t.2.2));
-}
-ends-of old new input out entry p (Err (end.Rule f)) has d = absurd d
-ends-of old new input out entry p (Err end.ReadFault) has d = inr (d.0, front-told old input out entry p d.1.0 new has d.1.1 d.1.2)
-ends-of old new input out entry p (Err end.WriteFault) has d = (
-  d.0,
-  λ m k.
-      let t = has m k in
-      elim d.1 [
-        | inl same ↦ (t.0, t.1, (t.2.0, inl same))
-        | inr h ↦ let f = front-told old input out entry p h.0 new has h.1 h.2 m k in (f.0, f.1, (f.2.0, inr f.2.1))
-      ],
-)
-ends-of old new input out entry p (Err end.NoMemory) has d = d
-
-pub link-ends : (old mid new : FileState) (input out : List ℕ) (i : Taken) (entry : ℕ) (p : Entry) (r : Result (Unit {0}) LinkEnd) → mid ≡ old
-    → HasFile old.kept input (λ b. (first_fault_of 1 b ≡ None) × (i ≡ input_of 1 b)) → entry ≡ i.entry → i.loads ≡ p ∷ [] → IsLinkable entry p
-    → Delivers mid new input out entry p r → LinksFile old new input out r
-link-ends old mid new input out i entry p r same has start one h d =
-    ends-of old new input out entry p r (made-by old input i entry p has start one h) (subst (λ s. Delivers s new input out entry p r) same d)
+pub says-as : (e : Taken) (o y : Option Taken) (f : Fault) → ((a : List ℕ) (b : Option (List ℕ)) → AreTakenOf a b e y → first_fault_of_both a b ≡ Some f) → y ≡ o
+    → (a : List ℕ) (b : Option (List ℕ)) → AreTakenOf a b e o → first_fault_of_both a b ≡ Some f
+says-as e o y f h k a b is = h a b (subst (λ z. AreTakenOf a b e z) (sym k) is)

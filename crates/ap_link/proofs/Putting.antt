@@ -4,16 +4,17 @@ use Rattle.ap_files.specs.Files.{FileState, Rose, KeepsCounts, ForFile, IsPresen
 use Rattle.ap_files.specs.declared.failure.Failed.{Failed}
 use Rattle.ap_link.specs.declared.copy.CopyFault.{CopyFault}
 use Rattle.ap_link.specs.declared.copy.CopyFault.TheVariants.{Read, Write}
-use Rattle.ap_link.specs.Transfers.{Grows, ReadRose, WriteRose, Appends, Puts}
-use Rattle.ap_link.proofs.Growing.{range-added, told-added, present-added, grows-again, counts-again}
+use Rattle.ap_files.specs.Appends.{Grows, ReadRose, WriteRose, Appends}
+use Rattle.ap_link.specs.Transfers.{Puts}
+use Rattle.ap_files.proofs.Growing.{range-added, told-added, present-added, grows-again, counts-again}
 
 -- a front of the first of two parts, and of the second behind it, is one of both
-front-first : (n : ℕ) (xs ys : List ℕ) → (k : ℕ) × (take n xs ≡ take k (xs ++ ys))
+pub front-first : (n : ℕ) (xs ys : List ℕ) → (k : ℕ) × (take n xs ≡ take k (xs ++ ys))
 front-first zero xs ys = (0, refl)
 front-first (suc n) [] ys = (0, refl)
 front-first (suc n) (x ∷ xs) ys = let t = front-first n xs ys in (suc t.0, ap (λ r. x ∷ r) t.1)
 
-front-second : (n : ℕ) (xs ys : List ℕ) → (k : ℕ) × (xs ++ take n ys ≡ take k (xs ++ ys))
+pub front-second : (n : ℕ) (xs ys : List ℕ) → (k : ℕ) × (xs ++ take n ys ≡ take k (xs ++ ys))
 front-second n [] ys = (n, refl)
 front-second n (x ∷ xs) ys = let t = front-second n xs ys in (suc t.0, ap (λ r. x ∷ r) t.1)
 
@@ -32,7 +33,7 @@ write-rose old mid new c r = record {
 }
 
 -- what is told behind a piece is told before it
-told-before : {P : List ℕ → Type 0} (old mid : FileState) (input out piece : List ℕ) → input ≢ out → Grows old mid out piece → ForFile mid.kept input P → ForFile old.kept input P
+pub told-before : {P : List ℕ → Type 0} (old mid : FileState) (input out piece : List ℕ) → input ≢ out → Grows old mid out piece → ForFile mid.kept input P → ForFile old.kept input P
 told-before {P} old mid input out piece apart g h = told-added {P = P} old.kept input out piece apart (subst (λ k. ForFile k input P) g.kept h)
 
 -- a piece, and what is put behind it

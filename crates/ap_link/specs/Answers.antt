@@ -1,81 +1,66 @@
--- What the linker answers.
-use Rattle.std.specs.Prelude.{◌≡◌, ◌⊎◌, ◌↔◌, ℕ, List, take, Vec, Result, Ok, Err, Some, None}
+-- What stands of a linked file, and what the linker answers.
+use Rattle.std.specs.Prelude.{◌≡◌, ◌↔◌, ℕ, ◌+◌, List, length, Contains, IfSome, Vec, Result, Ok, Err, Option, Some, None}
 use Rattle.std.specs.declared.alloc.Global.{Global}
 use Rattle.ap_fields.specs.Bytes.{Holds, over}
-use Rattle.ap_files.specs.Files.{FileMap, FileState, KeepsCounts, with_file}
-use Rattle.ap_files.specs.Reads.{HasFile, Unread}
 use Rattle.ap_fields.specs.Readings.{bytes_in}
 use Rattle.ap_elf.specs.Fields.{header_of, entries_of, loads_in}
 use Rattle.ap_elf.specs.ElfReading.{elf_reading}
-use Rattle.ap_check.specs.Rules.{first_fault_of}
-use Rattle.ap_link.specs.declared.fault.LinkFault.{LinkFault}
-use Rattle.ap_link.specs.declared.fault.LinkFault.TheVariants as fault
-use Rattle.ap_link.specs.declared.stream.LinkEnd.{LinkEnd}
-use Rattle.ap_link.specs.declared.stream.LinkEnd.TheVariants as end
-use Rattle.ap_link.specs.Transfers.{ReadRose, WriteRose, Makes}
-use Rattle.ap_link.specs.declared.copy.CopyFault.{CopyFault}
-use Rattle.ap_link.specs.declared.copy.CopyFault.TheVariants.{Read, Write}
-use Rattle.ap_elf.specs.declared.types.Entry.{Entry}
-use Rattle.ap_link.specs.ElfWritten.{embedded_header}
+use Rattle.ap_check.specs.declared.options.Systems.{Systems}
+use Rattle.ap_check.specs.Machines.{granule_of, number_of}
+use Rattle.ap_check.specs.Inputs.{Taken, input_of}
+use Rattle.ap_check.specs.Both.{first_fault_of_both}
+use Rattle.ap_elfmap.specs.ElfPlans.{IsPage}
 use Rattle.ap_octal.specs.Embedded.{Opens}
 use Rattle.ap_octal.specs.Statement.{statement_of}
 use Rattle.ap_loader.specs.ApeReading.{ape_reading}
-use Rattle.ap_link.specs.Linked.{linked_of, linked_by, statement_place}
+use Rattle.ap_layout.specs.Positions.{Positions, positions_of, inputs_of, tables_start, table_length}
+use Rattle.ap_script.specs.Tables.{embedded_bytes}
+use Rattle.ap_script.specs.Stands.{statement_place, statement_places}
+use Rattle.ap_link.specs.declared.fault.LinkFault.{LinkFault}
+use Rattle.ap_link.specs.declared.fault.LinkFault.TheVariants as fault
 use Rattle.ap_link.specs.Same.{Same}
+use Rattle.ap_link.specs.Linked.{linked_of, taken_second}
 
--- the header that the script of an input's linked file writes over the copy's first bytes
-abbrev pub embedded_header_of : List ℕ → List ℕ
-embedded_header_of input = embedded_header (header_of input).e_entry
+-- the inputs that are taken, and the positions of their linked file
+abbrev pub inputs_in : List ℕ → Option (List ℕ) → List Taken
+inputs_in a b = inputs_of (input_of 1 a) (taken_second b)
 
--- What a linked file is, and what stands of it: the script's statement prints the embedded header, and `printf '` stands
--- nowhere else in the window; the file with that header over its first bytes is read as the input's image, and so is the
--- file as an APE loader reads it.
-pub record IsLinked (input file : List ℕ) : Type 0 where
-  pub bytes : file ≡ linked_of input
-  pub statement : Holds file statement_place (statement_of (embedded_header_of input))
-  pub only : (k : ℕ) → Opens file k ↔ (k ≡ statement_place)
-  pub image : Same 4096 (bytes_in input) (loads_in (entries_of input)) (header_of input).e_entry (elf_reading 62 4096 (over file (embedded_header_of input)))
-  pub ape : Same 4096 (bytes_in input) (loads_in (entries_of input)) (header_of input).e_entry (ape_reading 62 4096 file)
+abbrev pub positions_in : List ℕ → Option (List ℕ) → Positions
+positions_in a b = positions_of (input_of 1 a) (taken_second b)
+
+-- what stands of an input of these bytes, taken as e, in a file where its program header table has a place: the statement of
+-- its embedded header stands at its place, and what the readings find at each page size, in the file with that header over
+-- its first bytes and in the file itself, is the input's image
+pub record Carries (input : List ℕ) (e : Taken) (table statement : ℕ) (file : List ℕ) : Type 0 where
+  pub text : Holds file statement (statement_of (embedded_bytes e table))
+  pub elf : (page : ℕ) → IsPage e.machine page
+      → Same (granule_of e.machine) (bytes_in input) (loads_in (entries_of input)) (header_of input).e_entry (elf_reading (number_of e.machine) page (over file (embedded_bytes e table)))
+  pub ape : (page : ℕ) → IsPage e.machine page
+      → Same (granule_of e.machine) (bytes_in input) (loads_in (entries_of input)) (header_of input).e_entry (ape_reading (number_of e.machine) page file)
+
+abbrev pub CarriesFirst : Systems → List ℕ → Option (List ℕ) → List ℕ → Type 0
+CarriesFirst systems a b file =
+    let e = input_of 1 a in
+    Carries a e tables_start (statement_place systems (inputs_in a b) (positions_in a b) e.machine) file
+
+abbrev pub CarriesSecond : Systems → List ℕ → List ℕ → List ℕ → Type 0
+CarriesSecond systems a b file =
+    let e = input_of 2 b in
+    Carries b e (tables_start + table_length (input_of 1 a)) (statement_place systems (inputs_in a (Some b)) (positions_in a (Some b)) e.machine) file
+
+-- What a linked file of one or two inputs is, and what stands of it: its bytes and its size; that `printf '` stands in its
+-- window where the script has statements and nowhere else, which are one for each input, that for x86-64 first; and what it
+-- carries of each input.
+pub record IsLinked (systems : Systems) (a : List ℕ) (b : Option (List ℕ)) (file : List ℕ) : Type 0 where
+  pub bytes : file ≡ linked_of systems a b
+  pub size : length file ≡ (positions_in a b).total
+  pub only : (k : ℕ) → Opens file k ↔ Contains (statement_places systems (inputs_in a b) (positions_in a b)) k
+  pub count : length (statement_places systems (inputs_in a b) (positions_in a b)) ≡ length (inputs_in a b)
+  pub first : CarriesFirst systems a b file
+  pub second : IfSome b (λ c. CarriesSecond systems a c file)
 
 -- the linked file where all rules hold, else the fault of the first that doesn't, unless memory runs out
-abbrev pub LinkAnswers : Result (Vec ℕ Global) LinkFault → List ℕ → Type 0
-LinkAnswers (Ok file) input = (first_fault_of 1 input ≡ None) × IsLinked input file.items
-LinkAnswers (Err (fault.Rule broken)) input = first_fault_of 1 input ≡ Some broken
-LinkAnswers (Err fault.NoMemory) input = Unit {0}
-
--- no call failed, and the file `out` holds the linked file of the input, which meets all rules
-pub record FileLinked (old new : FileState) (input out : List ℕ) : Type 0 where
-  pub counts : KeepsCounts old new
-  pub unfinished : (m : FileMap) → old.kept ≡ Some m → new.unfinished ≡ None
-  pub linked : HasFile old.kept input (λ b. (first_fault_of 1 b ≡ None) × (new.kept ≡ with_file old.kept out (linked_of b)) × IsLinked b (linked_of b))
-
--- the input meets all rules, and `out` was started and has a front of its linked file
-abbrev pub HasFront : FileState → FileState → List ℕ → List ℕ → Type 0
-HasFront old new input out =
-    HasFile old.kept input (λ b. (first_fault_of 1 b ≡ None) × ((n : ℕ) × (new.kept ≡ with_file old.kept out (take n (linked_of b)))))
-
--- the input meets all rules, and `out` wasn't started, or has a front of its linked file
-abbrev pub HasFrontOrNothing : FileState → FileState → List ℕ → List ℕ → Type 0
-HasFrontOrNothing old new input out =
-    HasFile old.kept input (λ b. (first_fault_of 1 b ≡ None) × ((new.kept ≡ old.kept) ⊎ ((n : ℕ) × (new.kept ≡ with_file old.kept out (take n (linked_of b))))))
-
--- how a link of files ends
-abbrev pub LinksFile : FileState → FileState → List ℕ → List ℕ → Result (Unit {0}) LinkEnd → Type 0
-LinksFile old new input out (Ok done) = FileLinked old new input out
-LinksFile old new input out (Err (end.Rule broken)) = (new ≡ old) × HasFile old.kept input (λ b. first_fault_of 1 b ≡ Some broken)
-LinksFile old new input out (Err end.ReadFault) = Unread old new input ⊎ (ReadRose old new × HasFront old new input out)
-LinksFile old new input out (Err end.WriteFault) = WriteRose old new × HasFrontOrNothing old new input out
-LinksFile old new input out (Err end.NoMemory) = new ≡ old
-
--- the end of a link for a side of a copy that failed
-abbrev pub end_of : CopyFault → LinkEnd
-end_of Read = end.ReadFault
-end_of Write = end.WriteFault
-
--- how the file is made of a program's parts, after the rules
-abbrev pub Delivers : FileState → FileState → List ℕ → List ℕ → ℕ → Entry → Result (Unit {0}) LinkEnd → Type 0
-Delivers old new input out entry p (Ok done) = Makes old new input out (λ b. linked_by (bytes_in b) entry p) (Ok done)
-Delivers old new input out entry p (Err (end.Rule broken)) = ⊥
-Delivers old new input out entry p (Err end.ReadFault) = Makes old new input out (λ b. linked_by (bytes_in b) entry p) (Err Read)
-Delivers old new input out entry p (Err end.WriteFault) = Makes old new input out (λ b. linked_by (bytes_in b) entry p) (Err Write)
-Delivers old new input out entry p (Err end.NoMemory) = new ≡ old
+abbrev pub LinkAnswers : Systems → Result (Vec ℕ Global) LinkFault → List ℕ → Option (List ℕ) → Type 0
+LinkAnswers systems (Ok file) a b = (first_fault_of_both a b ≡ None) × IsLinked systems a b file.items
+LinkAnswers systems (Err (fault.Rule broken)) a b = first_fault_of_both a b ≡ Some broken
+LinkAnswers systems (Err fault.NoMemory) a b = Unit {0}

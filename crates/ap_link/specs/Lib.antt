@@ -1,9 +1,9 @@
-pub mod Spelled
-pub mod ElfWritten
-pub mod Delimiter
-pub mod Script
-pub mod Linkable
 pub mod Linked
-pub mod Same
-pub mod Answers
+pub mod Nexts
 pub mod Transfers
+pub mod Sources
+pub mod Same
+pub mod LinkedIn
+pub mod Images
+pub mod Answers
+pub mod FileAnswers

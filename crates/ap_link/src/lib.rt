@@ -1,21 +1,25 @@
-//! Links an ELF program into one file that is a shell script, and holds the program's headers and bytes.
+//! Links ELF programs into one file that is a shell script, and holds the programs' headers and bytes.
 #![tactic(auto)]
 
-mod area;
-mod block;
+mod areas;
+mod build;
+mod bytes;
 mod copy;
+mod end;
 mod fault;
-mod field;
-mod header;
-mod link;
+mod image;
+mod laid;
+mod linker;
+mod make;
 mod put;
-mod script;
+mod source;
 mod stream;
 
+pub use end::LinkEnd;
 pub use fault::LinkFault;
-pub use field::Field;
-pub use link::link_one;
-pub use stream::{LinkEnd, link_file};
+pub use image::{ape_is_same, elf_is_same};
+pub use linker::link;
+pub use stream::link_stream;
 
 #[cfg(test)]
 mod tests;

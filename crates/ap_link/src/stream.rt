@@ -1,166 +1,127 @@
 // The linker over files.
-ghost use Rattle.std.specs.Prelude.{◌≡◌, ◌≢◌, ◌++◌, ◌+◌, ◌<◌, ◌^◌, length, IfOk};
-ghost use Rattle.ap_fields.specs.Bytes as bytes;
-ghost use Rattle.ap_files.specs.Files.{HasRange};
-ghost use Rattle.ap_link.specs.Answers.{LinksFile, Delivers, end_of};
-ghost use Rattle.ap_link.specs.Linkable.{IsLinkable};
-ghost use Rattle.ap_link.specs.Linked.{block_of, zeros_before, zeros_behind, part_start};
+ghost use Rattle.std.specs.Prelude.{◌≡◌, ◌≢◌, IfSome, Some, None, option_copied};
+ghost use Rattle.ap_link.specs.FileAnswers.{LinksFiles};
+ghost use Rattle.ap_link.specs.Sources.{IsSource, second_name, second_taken};
 
-use crate::block::push_block;
-use crate::copy::CopyFault;
-use crate::header::header_bytes;
-use crate::link::{Program, only_load};
-use crate::put::{Parts, make_file};
-use ap_check::{CheckEnd, Fault, check_input_in};
-use ap_elf::Entry;
-use ap_fields::{BLOCK, ceil_to};
+use crate::end::{LinkEnd, end_of_check, end_of_copy};
+use crate::make::make_file;
+use crate::source::{Source, Sources};
+use ap_check::{Input, Options, check_all, check_input_in};
 use ap_files::Files;
-use std::alloc::{AllocError, Global};
+use ap_layout::place;
+use ap_script::block_bytes;
 
-/// Why a link of files ended without its file.
-#[derive(Clone, Copy, Debug, PartialEq, Eq)]
-pub enum LinkEnd {
-    /// The input breaks a rule, and this is the first one.
-    Rule(Fault),
-    /// The input isn't there, or a read failed.
-    ReadFault,
-    /// A write failed.
-    WriteFault,
-    /// No memory is left.
-    NoMemory,
-}
-
-// How many bytes of the input are read and written at once.
-const PIECE: usize = 1 << 18;
-
-/// Links the file `input`, one x86-64 program of one load, for Linux, into the file `out`.
+/// Links the file `first`, and the file `second` where there is one, into the file `out`, and answers the size of the linked
+/// file in bytes. Which of Linux, FreeBSD and NetBSD it is for stands in the options, of which nothing else is looked at so
+/// far.
 ///
-/// The input's headers are read once, and after the rules its load's bytes, in large pieces, from the input into `out`; so
-/// an input of any size takes the memory of one piece. Nothing is started before every rule holds.
+/// Nothing is started before every rule holds. Then the inputs' bytes are read and written in pieces, so that inputs of any
+/// size take no memory of the heap.
 ///
-/// - `Rule`: the input breaks a rule, and this is the first one; no file changed.
-/// - `ReadFault`: the input isn't there, or a read failed; no file changed, or `out` has a front of the linked file.
+/// - `Rule`: the inputs break a rule, and this is the first one, all of input 1 before those of input 2; no file changed.
+/// - `ReadFault`: an input isn't there, or a read failed; no file changed, or `out` has a front of the linked file.
 /// - `WriteFault`: a write failed; no file changed, or `out` has a front of the linked file.
-/// - `NoMemory`: there was no memory for the block and a piece; no file changed.
-pub fn link_file<F: Files>(
-    alloc: Global,
-    files: &mut F,
-    input: &str,
+pub fn link_stream<F: Files>(
+    first: &str,
+    second: Option<&str>,
+    options: &Options,
     out: &str,
-) -> Result<(), LinkEnd>
-    requires { input.now ≢ out.now }
-    ensures { LinksFile (F.state files.old) (F.state files.new) input.now out.now result }
-{
-    let taken = match check_input_in(files, input, 1) {
-        Ok(taken) => taken,
-        Err(CheckEnd::Rule(fault)) => return Err(LinkEnd::Rule(fault)),
-        Err(CheckEnd::ReadFault) => return Err(LinkEnd::ReadFault),
-    };
-    deliver(alloc, files, input, out, &only_load(&taken))
-}
-
-// Makes the linked file of a program whose bytes are those of the file `input`.
-fn deliver<F: Files>(
-    alloc: Global,
     files: &mut F,
-    input: &str,
+) -> Result<u64, LinkEnd>
+    requires first { first.now ≢ out.now }
+    requires second { IfSome (option_copied second) (λ n. n ≢ out.now) }
+    ensures { LinksFiles options.now.systems (F.state files.old) (F.state files.new) first.now (option_copied second.entry) out.now result }
+{
+    let input = match check_input_in(files, first, 1) {
+        Ok(input) => input,
+        Err(end) => return Err(end_of_check(end)),
+    };
+    let source = Source {
+        name: first,
+        input: &input,
+    };
+    match second {
+        None => link_first(files, &source, options, out),
+        Some(name) => link_second(files, &source, name, options, out),
+    }
+}
+
+// Links the first input, which was taken, alone.
+fn link_first<F: Files>(
+    files: &mut F,
+    first: &Source<'_>,
+    options: &Options,
     out: &str,
-    program: &Program,
-) -> Result<(), LinkEnd>
-    requires apart { input.now ≢ out.now }
-    requires linkable { IsLinkable program.now.entry program.now.load }
-    requires part { HasRange (F.state files.old).kept input.now (part_start program.now.load) program.now.load.filesz }
-    requires small { part_start program.now.load + program.now.load.filesz < 2 ^ 64 }
-    ensures { Delivers (F.state files.old) (F.state files.new) input.now out.now program.now.entry program.now.load result }
+) -> Result<u64, LinkEnd>
+    requires first { IsSource (F.state files.old).kept 1 first.now }
+    requires apart { first.now.name.now ≢ out.now }
+    ensures { LinksFiles options.now.systems (F.state files.old) (F.state files.new) first.now.name.now None out.now result }
 {
-    let p = &program.load;
-    let Ok(front) = front(alloc, program) else {
-        return Err(LinkEnd::NoMemory);
+    let sources = Sources {
+        first: *first,
+        second: None,
     };
-    let Ok(behind) = zeros(alloc, behind(p)) else {
-        return Err(LinkEnd::NoMemory);
+    link_sources(files, &sources, options, out)
+}
+
+// Links the first input, which was taken, and the file `name`.
+fn link_second<F: Files>(
+    files: &mut F,
+    first: &Source<'_>,
+    name: &str,
+    options: &Options,
+    out: &str,
+) -> Result<u64, LinkEnd>
+    requires first { IsSource (F.state files.old).kept 1 first.now }
+    requires apart { first.now.name.now ≢ out.now }
+    requires others { name.now ≢ out.now }
+    ensures { LinksFiles options.now.systems (F.state files.old) (F.state files.new) first.now.name.now (Some name.now) out.now result }
+{
+    let input = match check_input_in(files, name, 2) {
+        Ok(input) => input,
+        Err(end) => return Err(end_of_check(end)),
     };
-    let Ok(mut buffer) = piece(alloc) else {
-        return Err(LinkEnd::NoMemory);
+    let second = Source {
+        name,
+        input: &input,
     };
-    let parts = Parts {
-        front: &front,
-        from: start(p),
-        count: p.filesz,
-        behind: &behind,
+    let sources = Sources {
+        first: *first,
+        second: Some(second),
     };
-    match make_file(files, input, out, &parts, &mut buffer) {
-        Ok(()) => Ok(()),
-        Err(fault) => Err(end(fault)),
+    link_sources(files, &sources, options, out)
+}
+
+// Links inputs that were taken.
+fn link_sources<F: Files>(
+    files: &mut F,
+    sources: &Sources<'_>,
+    options: &Options,
+    out: &str,
+) -> Result<u64, LinkEnd>
+    requires first { IsSource (F.state files.old).kept 1 sources.now.first }
+    requires second { IfSome sources.now.second (λ s. IsSource (F.state files.old).kept 2 s) }
+    requires apart { sources.now.first.name.now ≢ out.now }
+    requires others { IfSome sources.now.second (λ s. s.name.now ≢ out.now) }
+    ensures { LinksFiles options.now.systems (F.state files.old) (F.state files.new) sources.now.first.name.now (second_name sources.now.second) out.now result }
+{
+    let job = match check_all(sources.first.input, second_input(sources), options) {
+        Ok(job) => job,
+        Err(fault) => return Err(LinkEnd::Rule(fault)),
+    };
+    let lay = place(&job);
+    let block = block_bytes(&job, &lay);
+    match make_file(files, sources, &lay, &block, out) {
+        Ok(()) => Ok(lay.total),
+        Err(fault) => Err(end_of_copy(fault)),
     }
 }
 
-fn end(fault: CopyFault) -> LinkEnd
-    ensures { result ≡ end_of fault }
+fn second_input<'a>(sources: &Sources<'a>) -> Option<&'a Input>
+    ensures { option_copied result ≡ second_taken sources.now.second }
 {
-    match fault {
-        CopyFault::Read => LinkEnd::ReadFault,
-        CopyFault::Write => LinkEnd::WriteFault,
+    match sources.second {
+        Some(second) => Some(second.input),
+        None => None,
     }
-}
-
-// A buffer for one piece.
-fn piece(alloc: Global) -> Result<Vec<u8>, AllocError>
-    ensures { IfOk result (λ v. 0 < length v.items) }
-{
-    let mut buffer = Vec::new(alloc);
-    buffer.resize(PIECE, 0)?;
-    Ok(buffer)
-}
-
-// Where the load's bytes start in the input, or 0 where there are none.
-fn start(p: &Entry) -> u64
-    ensures { result ≡ part_start p.now }
-{
-    if p.filesz == 0 { 0 } else { p.offset }
-}
-
-// The block, and the zeros of the area before the load's bytes.
-fn front(alloc: Global, program: &Program) -> Result<Vec<u8>, AllocError>
-    requires { IsLinkable program.now.entry program.now.load }
-    ensures { IfOk result (λ v. v.items ≡ block_of program.now.entry program.now.load ++ bytes.zeros (zeros_before program.now.load)) }
-{
-    let header = header_bytes(alloc, program.entry)?;
-    let mut out = Vec::with_capacity(alloc, BLOCK + 4096)?;
-    push_block(&mut out, program.entry, &header, &program.load)?;
-    let behind = zeros(alloc, before(&program.load))?;
-    out.extend_from_slice(&behind)?;
-    Ok(out)
-}
-
-fn before(p: &Entry) -> usize
-    ensures { result ≡ zeros_before p.now }
-{
-    if p.filesz == 0 {
-        0
-    } else {
-        (p.vaddr % 4096) as usize
-    }
-}
-
-#[tactic(auto, using(ap_fields::proofs::Granules::powers))]
-fn behind(p: &Entry) -> usize
-    requires { p.now.filesz < 268435457 }
-    ensures { result ≡ zeros_behind p.now }
-{
-    if p.filesz == 0 {
-        0
-    } else {
-        let end = p.vaddr % 4096 + p.filesz;
-        (ceil_to(end, 4096) - end) as usize
-    }
-}
-
-#[tactic(auto, unfolding(ap_fields::specs::Bytes::zeros))]
-fn zeros(alloc: Global, count: usize) -> Result<Vec<u8>, AllocError>
-    ensures { IfOk result (λ v. v.items ≡ bytes.zeros count) }
-{
-    let mut bytes = Vec::new(alloc);
-    bytes.resize(count, 0)?;
-    Ok(bytes)
 }

@@ -1,2 +1,3 @@
 pub mod Quotes
 pub mod HeaderLemmas
+pub mod HeaderPlans

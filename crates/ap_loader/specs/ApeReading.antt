@@ -46,6 +46,14 @@ plan_by machine page file (Some (at, header)) = as_ape (plan_over machine page f
 abbrev pub ape_plan : ℕ → ℕ → List ℕ → Result Mapping ApeFault
 ape_plan machine page file = if has_magic file then plan_by machine page file (taken machine file) else Err NoMagic
 
+-- the header that takes the place of the file's first bytes, or why there is none
+abbrev pub header_by : Option (ℕ × List ℕ) → Result (List ℕ) ApeFault
+header_by None = Err NoStatement
+header_by (Some (at, header)) = Ok header
+
+abbrev pub header_for : ℕ → List ℕ → Result (List ℕ) ApeFault
+header_for machine file = if has_magic file then header_by (taken machine file) else Err NoMagic
+
 -- the places that the reading looks at: the window, and what the ELF reading with the header looks at
 abbrev pub LooksBy : List ℕ → Option (ℕ × List ℕ) → ℕ → Type 0
 LooksBy file None k = ⊥

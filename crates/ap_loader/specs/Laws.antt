@@ -44,11 +44,11 @@ cells-ape machine page file is = cells-magic (has_magic file) machine page file 
 
 -- ---- law frame
 
-magic-same : (f g : List ℕ) → take 8 f ≡ take 8 g → has_magic f ≡ has_magic g
+pub magic-same : (f g : List ℕ) → take 8 f ≡ take 8 g → has_magic f ≡ has_magic g
 magic-same f g same =
     ap (λ front. bytes_eq (codes "MZqFpD='") front || (bytes_eq (codes "jartsr='") front || bytes_eq (codes "APEDBG='") front)) same
 
-taken-same : (machine : ℕ) (f g : List ℕ) → has_magic f ≡ has_magic g → take WINDOW f ≡ take WINDOW g → taken machine f ≡ taken machine g
+pub taken-same : (machine : ℕ) (f g : List ℕ) → has_magic f ≡ has_magic g → take WINDOW f ≡ take WINDOW g → taken machine f ≡ taken machine g
 unfolding taken
 taken-same machine f g magic window =
     ap (λ b. if b then header_of_window machine (take WINDOW f) else None) magic

@@ -3,6 +3,7 @@
 #![tactic(auto)]
 
 mod fault;
+mod file;
 mod header;
 mod reading;
 

@@ -1,7 +1,9 @@
 // The reading of APE files.
+ghost use Rattle.std.specs.Prelude.{◌≡◌};
 ghost use Rattle.ap_check.specs.Machines.{number_of};
 ghost use Rattle.ap_elfmap.specs.ElfPlans.{IsPage};
 ghost use Rattle.ap_elfmap.specs.Laws.{page-granule};
+ghost use Rattle.ap_loader.specs.ApeReading as spec;
 ghost use Rattle.ap_loader.specs.ApeReading.{ape_reading, ape_plan, Looks};
 ghost use Rattle.ap_loader.specs.Laws.{cells-ape, frame-ape};
 
@@ -35,17 +37,28 @@ impl Reading for ApeReading {
     ghost looks = { λ r f. Looks (number_of r.machine) f };
 
     fn read(&self, file: &[u8]) -> Result<Plan, ApeFault> {
-        if !has_magic(file) {
-            return Err(ApeFault::NoMagic);
+        match header_for(file, self.machine) {
+            Ok(header) => {
+                read_with(self.machine, self.page, &header, file).map_err(ApeFault::Elf)
+            }
+            Err(fault) => Err(fault),
         }
-        let Some(statement) = embedded(file, self.machine) else {
-            return Err(ApeFault::NoStatement);
-        };
-        let header = statement.1;
-        read_with(self.machine, self.page, &header, file).map_err(ApeFault::Elf)
     }
 
     ghost cells = { λ r f is. cells-ape (number_of r.machine) r.page f (page-granule r.machine r.page is) };
 
     ghost frame = { λ r f g is len agree. frame-ape (number_of r.machine) r.page f g len agree };
+}
+
+/// The header that the reading of a file puts in place of its first 64 bytes, or why there is none.
+pub(crate) fn header_for(file: &[u8], machine: Machine) -> Result<[u8; 64], ApeFault>
+    ensures { result ≡ spec.header_for (number_of machine) file.now }
+{
+    if !has_magic(file) {
+        return Err(ApeFault::NoMagic);
+    }
+    match embedded(file, machine) {
+        Some(statement) => Ok(statement.1),
+        None => Err(ApeFault::NoStatement),
+    }
 }

@@ -2,6 +2,7 @@
 use crate::*;
 use ap_check::Machine;
 use ap_elfmap::{ElfCause, ElfFault};
+use ap_files::SteadyFiles;
 use ap_image::{Perms, Reading, Region};
 use bitflags::Flags;
 use std::alloc::{AllocError, Global};
@@ -97,6 +98,12 @@ fn a_foreign_file_is_mapped(rt: HostRuntime) -> Result<(), Fail> {
         perms: Perms::R.union(Perms::X),
     };
     assert_eq!(rt; plan.regions[0], expected);
+
+    let mut files = SteadyFiles::of("foreign", &file);
+    let read = reading.read_in(&mut files, "foreign", file.len() as u64);
+    let plan = read.ok().ok_or("unread")?.ok().ok_or("refused")?;
+    assert_eq!(rt; plan.entry, 0x401000);
+    assert_eq!(rt; plan.regions.as_slice(), [expected].as_slice());
     Ok(())
 }
 

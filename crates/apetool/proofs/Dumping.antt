@@ -1,58 +1,74 @@
 -- How a file is dumped, step by step.
-use Rattle.std.proofs.Common.{◌≡◌, ℕ, ◌^◌, ◌<◌, ◌≤◌, true, false, cond, List, length, Result, Ok, Err, refl, sym, ap, ◌∙◌, subst, arith}
+use Rattle.std.proofs.Common.{◌≡◌, ℕ, ◌^◌, ◌<◌, Bool, true, false, cond, List, length, Result, Ok, Err, refl, sym, ap, ◌∙◌, subst, arith}
 use Rattle.std.specs.Prelude.{nat_lt}
 use Rattle.std.proofs.lemmas.Bool.Decides.{nat_tests}
+use Rattle.ap_fields.specs.Readings.{bytes_in}
 use Rattle.ap_files.specs.Files.{FileState}
 use Rattle.ap_files.specs.Sinks.{SinkState}
 use Rattle.ap_files.specs.Reads.{HasFile}
+use Rattle.ap_files.proofs.ReadLemmas.{told_of}
+use Rattle.ap_image.specs.Plans.{Mapping}
+use Rattle.ap_image.specs.ImageFiles.{total_of, image_file}
 use Rattle.apetool.specs.declared.end.ReadingFault.{ReadingFault}
 use Rattle.apetool.specs.declared.end.ReadingFault.TheVariants as fault
 use Rattle.apetool.specs.declared.end.Cause.{Cause}
 use Rattle.apetool.specs.declared.end.Cause.TheVariants.{Done, Refused, Unread, Usage, ReadFault, WriteFault, OutFault, NoMemory}
-use Rattle.apetool.specs.declared.fetch.Unfetched.{Unfetched}
-use Rattle.apetool.specs.declared.fetch.Unfetched.TheVariants.{Large, Read, Memory}
 use Rattle.apetool.specs.declared.format.Format.{Format}
 use Rattle.apetool.specs.declared.dump.Parts.{Parts}
-use Rattle.apetool.specs.Fetches.{Fetches}
+use Rattle.apetool.specs.declared.planned.Planned.{Planned}
+use Rattle.apetool.specs.PlanTexts.{plan_text}
 use Rattle.apetool.specs.Formats.{plan_in}
-use Rattle.apetool.specs.Shows.{Printed, cause_of}
+use Rattle.apetool.specs.FilePlans.{sized_plan_in, IsPlanned, Plans}
+use Rattle.apetool.specs.Shows.{Printed}
 use Rattle.apetool.specs.Stores.{Stored, StoreFails}
 use Rattle.apetool.specs.Dumps.{Dumped, dumped_by, dumped_in, dumped_as, IsDumped, DumpEnds, PartsAnswer, MakesParts}
 
-dumped-small : (format : Format) (b : List ℕ) (d : Result Dumped ReadingFault) → length b ≤ 2 ^ 30 → dumped_by b (plan_in format b) ≡ d → dumped_in format b ≡ d
-unfolding dumped_in
-dumped-small format b d small h =
-    let f : nat_lt (2 ^ 30) (length b) ≡ false = grind (arith, nat_tests) in
-    ap (λ t. cond t (Err (fault.Large (length b))) (dumped_by b (plan_in format b))) f ∙ h
+by-size : (large : Bool) (f : ReadingFault) (b : List ℕ) (plan : Result Mapping ReadingFault) → cond large (Err f) (dumped_by b plan) ≡ dumped_by b (cond large (Err f) plan)
+by-size true f b plan = refl
+by-size false f b plan = refl
 
-dumped-large : (format : Format) (b : List ℕ) (size : ℕ) → 2 ^ 30 < size → size ≡ length b → dumped_in format b ≡ Err (fault.Large size)
-unfolding dumped_in
-dumped-large format b size large is =
-    let f : nat_lt (2 ^ 30) (length b) ≡ true = grind (arith, nat_tests) in
-    ap (λ t. cond t (Err (fault.Large (length b))) (dumped_by b (plan_in format b))) f ∙ ap (λ n. Err (fault.Large n)) (sym is)
+dumped_in-plan : (format : Format) (b : List ℕ) → dumped_in format b ≡ dumped_by b (sized_plan_in format b)
+unfolding dumped_in sized_plan_in
+dumped_in-plan format b = by-size (nat_lt (2 ^ 30) (length b)) (fault.Large (length b)) b (plan_in format b)
 
-pub parts-unread : (old new : FileState) (format : Format) (name : List ℕ) (u : Unfetched) → Fetches old new name (Err u) → PartsAnswer old new format name (Err (cause_of u))
-parts-unread old new format name (Large size) h = (h.0, λ m k. let t = h.2 m k in (t.0, t.1, dumped-large format t.0 size h.1 t.2))
-parts-unread old new format name Read h = h
-parts-unread old new format name Memory h = h
+dumped-wide : (b : List ℕ) (m : Mapping) (total : ℕ) → total ≡ total_of m.regions → 2 ^ 30 < total → dumped_by b (Ok m) ≡ Err (fault.Wide total)
+dumped-wide b m total is wide =
+    let f : nat_lt (2 ^ 30) (total_of m.regions) ≡ true = grind (arith, nat_tests) in
+    ap (λ t. cond t (Err (fault.Wide (total_of m.regions))) (Ok (record { image = image_file (bytes_in b) m; text = plan_text m }))) f ∙ ap (λ n. Err (fault.Wide n)) (sym is)
 
-is-dumped : (old : FileState) (format : Format) (name bytes : List ℕ) (d : Result Dumped ReadingFault) → HasFile old.kept name (λ b. (length b ≤ 2 ^ 30) × (bytes ≡ b))
-    → dumped_by bytes (plan_in format bytes) ≡ d → IsDumped old format name d
-is-dumped old format name bytes d has h m k =
-    let t = has m k in
-    (t.0, t.1, dumped-small format t.0 d t.2.0 (ap (λ b. dumped_by b (plan_in format b)) (sym t.2.1) ∙ h))
+pub parts-refused : (old new : FileState) (format : Format) (name : List ℕ) (cause : Cause) → Plans old new format name (Err cause) → PartsAnswer old new format name (Err cause)
+parts-refused old new format name (Unread f) h = (h.0, λ m k. let t = h.1 m k in (t.0, t.1, dumped_in-plan format t.0 ∙ ap (dumped_by t.0) t.2))
+parts-refused old new format name ReadFault h = h
+parts-refused old new format name Done h = absurd h
+parts-refused old new format name (Refused f) h = absurd h
+parts-refused old new format name Usage h = absurd h
+parts-refused old new format name WriteFault h = absurd h
+parts-refused old new format name OutFault h = absurd h
+parts-refused old new format name NoMemory h = absurd h
 
-pub parts-made : (old new : FileState) (format : Format) (name bytes : List ℕ) (r : Result Parts Cause) → (new ≡ old) × HasFile old.kept name (λ b. (length b ≤ 2 ^ 30) × (bytes ≡ b))
-    → MakesParts format bytes r → PartsAnswer old new format name r
-parts-made old new format name bytes (Ok parts) h m = (h.0, is-dumped old format name bytes (Ok (dumped_as parts)) h.1 m)
-parts-made old new format name bytes (Err (Unread f)) h m = (h.0, is-dumped old format name bytes (Err f) h.1 m)
-parts-made old new format name bytes (Err NoMemory) h m = h.0
-parts-made old new format name bytes (Err Done) h m = absurd m
-parts-made old new format name bytes (Err (Refused f)) h m = absurd m
-parts-made old new format name bytes (Err Usage) h m = absurd m
-parts-made old new format name bytes (Err ReadFault) h m = absurd m
-parts-made old new format name bytes (Err WriteFault) h m = absurd m
-parts-made old new format name bytes (Err OutFault) h m = absurd m
+pub parts-wide : (old new : FileState) (format : Format) (name : List ℕ) (planned : Planned) (total : ℕ) → Plans old new format name (Ok planned) → total ≡ total_of planned.plan.regions → 2 ^ 30 < total
+    → PartsAnswer old new format name (Err (Unread (fault.Wide total)))
+parts-wide old new format name planned total h is wide =
+    (h.0, λ m k. let t = h.2 m k in (t.0, t.1, dumped_in-plan format t.0 ∙ ap (dumped_by t.0) t.2 ∙ dumped-wide t.0 planned.plan total is wide))
+
+is-dumped : (old mid : FileState) (format : Format) (name bytes : List ℕ) (plan : Mapping) (d : Result Dumped ReadingFault) → mid ≡ old → IsPlanned old format name (Ok plan) → HasFile mid.kept name (λ b. bytes ≡ b)
+    → dumped_by bytes (Ok plan) ≡ d → IsDumped old format name d
+is-dumped old mid format name bytes plan d same planned has is m k =
+    let t = planned m k in
+    let whole = told_of mid.kept name m t.0 has (ap (λ (s : FileState). s.kept) same ∙ k) t.1 in
+    (t.0, t.1, dumped_in-plan format t.0 ∙ ap (dumped_by t.0) t.2 ∙ ap (λ b. dumped_by b (Ok plan)) (sym whole) ∙ is)
+
+pub parts-made : (old mid new : FileState) (format : Format) (name bytes : List ℕ) (planned : Planned) (r : Result Parts Cause) → Plans old mid format name (Ok planned)
+    → (new ≡ mid) × HasFile mid.kept name (λ b. bytes ≡ b) → MakesParts planned.plan bytes r → PartsAnswer old new format name r
+parts-made old mid new format name bytes planned (Ok parts) h f m = (f.0 ∙ h.0, is-dumped old mid format name bytes planned.plan (Ok (dumped_as parts)) h.0 h.2 f.1 m)
+parts-made old mid new format name bytes planned (Err (Unread g)) h f m = (f.0 ∙ h.0, is-dumped old mid format name bytes planned.plan (Err g) h.0 h.2 f.1 m)
+parts-made old mid new format name bytes planned (Err NoMemory) h f m = f.0 ∙ h.0
+parts-made old mid new format name bytes planned (Err Done) h f m = absurd m
+parts-made old mid new format name bytes planned (Err (Refused g)) h f m = absurd m
+parts-made old mid new format name bytes planned (Err Usage) h f m = absurd m
+parts-made old mid new format name bytes planned (Err ReadFault) h f m = absurd m
+parts-made old mid new format name bytes planned (Err WriteFault) h f m = absurd m
+parts-made old mid new format name bytes planned (Err OutFault) h f m = absurd m
 
 pub dump-printed : (old mid new : FileState) (before after : SinkState) (format : Format) (name image : List ℕ) (d : Dumped) (cause : Cause) → (mid ≡ old) × IsDumped old format name (Ok d)
     → Stored mid new image d.image → Printed before after d.text cause → DumpEnds old new before after format name image cause

@@ -13,6 +13,11 @@ pub same-word : (words : List (String Global)) (a b : String Global) → 2 ≤ l
 same-word [] a b long first second = absurd (omega arith)
 same-word (x ∷ rest) a b long first second = first ∙ sym second
 
+pub same-second : (words : List (String Global)) (a b : String Global) → 2 ≤ length words → a ≡ get_or words 1 a → b ≡ get_or words 1 b → a ≡ b
+same-second [] a b long first second = absurd (omega arith)
+same-second (x ∷ []) a b long first second = absurd (omega arith)
+same-second (x ∷ y ∷ rest) a b long first second = first ∙ sym second
+
 -- an option, and the words behind it
 pub given-more : (o p : Options) (dump : Option (List ℕ)) (words : List (String Global)) (name value : String Global) → 2 ≤ length words → name ≡ get_or words 0 name → value ≡ get_or words 1 value
     → bytes_eq (string_bytes name) (codes "--dump") ≡ false → with_option o (string_bytes name) (string_bytes value) ≡ Some p

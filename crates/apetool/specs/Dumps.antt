@@ -63,12 +63,12 @@ PartsAnswer old new format name (Err ReadFault) = reads.Unread old new name
 PartsAnswer old new format name (Err NoMemory) = new ≡ old
 PartsAnswer old new format name (Err _) = ⊥
 
--- and of its bytes
-abbrev pub MakesParts : Format → List ℕ → Result Parts Cause → Type 0
-MakesParts format file (Ok parts) = dumped_by file (plan_in format file) ≡ Ok (dumped_as parts)
-MakesParts format file (Err (Unread f)) = dumped_by file (plan_in format file) ≡ Err f
-MakesParts format file (Err NoMemory) = Unit {0}
-MakesParts format file (Err _) = ⊥
+-- and of a plan over its bytes
+abbrev pub MakesParts : Mapping → List ℕ → Result Parts Cause → Type 0
+MakesParts m file (Ok parts) = dumped_by file (Ok m) ≡ Ok (dumped_as parts)
+MakesParts m file (Err (Unread f)) = dumped_by file (Ok m) ≡ Err f
+MakesParts m file (Err NoMemory) = Unit {0}
+MakesParts m file (Err _) = ⊥
 
 -- and the image file of a plan
 abbrev pub Pictures : Mapping → List ℕ → Result (Vec ℕ Global) Cause → Type 0

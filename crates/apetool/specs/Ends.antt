@@ -1,10 +1,12 @@
 -- How a run ends.
 use Rattle.std.specs.Prelude.{◌≡◌, ℕ, ◌^◌, ◌-◌, ◌<◌, ◌⊎◌, List, Result, Ok, Err, Some, None, Option}
-use Rattle.ap_files.specs.Files.{FileState, ForFile}
+use Rattle.ap_files.specs.Files.{FileMap, FileState, ForFile}
 use Rattle.ap_check.specs.declared.fault.Fault.{Fault}
 use Rattle.ap_check.specs.Rules.{first_fault_of}
-use Rattle.ap_link.specs.declared.stream.LinkEnd.TheVariants as end
-use Rattle.ap_link.specs.Answers.{LinksFile}
+use Rattle.ap_check.specs.Both.{first_fault_of_both}
+use Rattle.ap_link.specs.declared.end.LinkEnd.{LinkEnd}
+use Rattle.ap_link.specs.declared.end.LinkEnd.TheVariants as end
+use Rattle.ap_link.specs.FileAnswers.{LinksFiles}
 use Rattle.ap_files.specs.Sinks.{SinkState}
 use Rattle.apetool.specs.Words.{LinkNames, names_in}
 use Rattle.apetool.specs.Options.{View, view_in}
@@ -26,16 +28,20 @@ status_of WriteFault = 4
 status_of OutFault = 4
 status_of NoMemory = 5
 
+-- how a link of files answers, by what its words name
+abbrev pub LinkAnswered : FileState → FileState → LinkNames → Result ℕ LinkEnd → Type 0
+LinkAnswered old new names answer = LinksFiles names.systems old new names.first names.second names.out answer
+
 -- how a link ends, by its cause
 abbrev pub LinkEnds : FileState → FileState → LinkNames → Cause → Type 0
-LinkEnds old new names Done = LinksFile old new names.input names.out (Ok tt)
-LinkEnds old new names (Refused fault) = LinksFile old new names.input names.out (Err (end.Rule fault))
+LinkEnds old new names Done = (size : ℕ) × LinkAnswered old new names (Ok size)
+LinkEnds old new names (Refused fault) = LinkAnswered old new names (Err (end.Rule fault))
 LinkEnds old new names (Unread fault) = ⊥
 LinkEnds old new names Usage = ⊥
-LinkEnds old new names ReadFault = LinksFile old new names.input names.out (Err end.ReadFault)
-LinkEnds old new names WriteFault = LinksFile old new names.input names.out (Err end.WriteFault)
+LinkEnds old new names ReadFault = LinkAnswered old new names (Err end.ReadFault)
+LinkEnds old new names WriteFault = LinkAnswered old new names (Err end.WriteFault)
 LinkEnds old new names OutFault = ⊥
-LinkEnds old new names NoMemory = LinksFile old new names.input names.out (Err end.NoMemory)
+LinkEnds old new names NoMemory = new ≡ old
 
 -- how a view ends, without an image file or with one
 abbrev pub ViewEnds : FileState → FileState → SinkState → SinkState → Format → List ℕ → Option (List ℕ) → Cause → Type 0
@@ -55,13 +61,29 @@ RunEnds old new before after words cause = EndsBy old new before after (names_in
 abbrev pub Stands : ℕ → ℕ → Type 0
 Stands before now = (now ≡ before) × (before < 2 ^ 64 - 1)
 
--- Where the input is told and no read or write failed, a link is done exactly where all rules hold, and else refused for the
--- first that doesn't, unless memory runs out.
+-- where files are told and the second input is there, where there is one, its bytes have a property
+abbrev pub ForSecond : Option FileMap → Option (List ℕ) → (Option (List ℕ) → Type 0) → Type 0
+ForSecond kept None P = P None
+ForSecond kept (Some name) P = ForFile kept name (λ b. P (Some b))
+
+-- a link is refused for this fault, where there is one
+abbrev pub RefusedFor : Option Fault → Cause → Type 0
+RefusedFor first cause = (fault : Fault) → first ≡ Some fault → (cause ≡ Refused fault) ⊎ (cause ≡ NoMemory)
+
+-- it is done where there is none
+abbrev pub DoneWithout : Option Fault → Cause → Type 0
+DoneWithout first cause = first ≡ None → (cause ≡ Done) ⊎ (cause ≡ NoMemory)
+
+-- what is said of a link of these inputs that meets no fault of the files
+abbrev pub BothComplete : Cause → List ℕ → Option (List ℕ) → Type 0
+BothComplete cause a b = DoneWithout (first_fault_of_both a b) cause × RefusedFor (first_fault_of_both a b) cause
+
+-- Where the inputs are told and no read or write failed, a link is done exactly where all rules hold, and else refused for the
+-- first that doesn't, unless memory runs out. Where input 1 breaks a rule, input 2 needn't be there.
 abbrev pub LinkComplete : FileState → FileState → LinkNames → Cause → Type 0
 LinkComplete old new names cause =
-    Stands old.read_faults new.read_faults → Stands old.write_faults new.write_faults → ForFile old.kept names.input (λ input.
-    (first_fault_of 1 input ≡ None → (cause ≡ Done) ⊎ (cause ≡ NoMemory))
-    × ((fault : Fault) → first_fault_of 1 input ≡ Some fault → (cause ≡ Refused fault) ⊎ (cause ≡ NoMemory)))
+    Stands old.read_faults new.read_faults → Stands old.write_faults new.write_faults → ForFile old.kept names.first (λ a.
+    RefusedFor (first_fault_of 1 a) cause × ForSecond old.kept names.second (BothComplete cause a))
 
 -- an answer comes exactly where a file is refused, and the work is done where it isn't and no print failed
 abbrev pub AnswersBy : {T : Type 0} → SinkState → SinkState → Cause → Result T ReadingFault → Type 0

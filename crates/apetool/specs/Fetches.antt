@@ -1,14 +1,23 @@
--- A file that is read whole.
-use Rattle.std.specs.Prelude.{◌≡◌, ℕ, ◌^◌, ◌<◌, ◌≤◌, List, length, Vec, Result, Ok, Err}
+-- Files that are read by their names.
+use Rattle.std.specs.Prelude.{◌≡◌, ℕ, ◌^◌, ◌<◌, ◌≤◌, List, Vec, Result, Ok, Err}
 use Rattle.std.specs.declared.alloc.Global.{Global}
 use Rattle.ap_files.specs.Files.{FileState}
-use Rattle.ap_files.specs.Reads.{HasFile, HasSize, Unread}
-use Rattle.apetool.specs.declared.fetch.Unfetched.{Unfetched}
-use Rattle.apetool.specs.declared.fetch.Unfetched.TheVariants.{Large, Read, Memory}
+use Rattle.ap_files.specs.Reads as reads
+use Rattle.ap_files.specs.Reads.{HasFile, HasSize}
+use Rattle.apetool.specs.declared.end.ReadingFault.TheVariants as fault
+use Rattle.apetool.specs.declared.end.Cause.{Cause}
+use Rattle.apetool.specs.declared.end.Cause.TheVariants.{Unread, ReadFault, NoMemory}
 
--- its bytes, which are 2^30 at most, or why it wasn't read
-abbrev pub Fetches : FileState → FileState → List ℕ → Result (Vec ℕ Global) Unfetched → Type 0
-Fetches old new name (Ok bytes) = (new ≡ old) × HasFile old.kept name (λ b. (length b ≤ 2 ^ 30) × (bytes.items ≡ b))
-Fetches old new name (Err (Large size)) = (new ≡ old) × (2 ^ 30 < size) × HasSize old.kept name size
-Fetches old new name (Err Read) = Unread old new name
-Fetches old new name (Err Memory) = new ≡ old
+-- a file's length, which is 2^30 at most, or why the file isn't read
+abbrev pub Measured : FileState → FileState → List ℕ → Result ℕ Cause → Type 0
+Measured old new name (Ok size) = (new ≡ old) × (size ≤ 2 ^ 30) × HasSize old.kept name size
+Measured old new name (Err (Unread (fault.Large size))) = (new ≡ old) × (2 ^ 30 < size) × HasSize old.kept name size
+Measured old new name (Err ReadFault) = reads.Unread old new name
+Measured old new name (Err _) = ⊥
+
+-- all bytes of a file, or why it wasn't read
+abbrev pub Fetches : FileState → FileState → List ℕ → Result (Vec ℕ Global) Cause → Type 0
+Fetches old new name (Ok bytes) = (new ≡ old) × HasFile old.kept name (λ b. bytes.items ≡ b)
+Fetches old new name (Err ReadFault) = reads.Unread old new name
+Fetches old new name (Err NoMemory) = new ≡ old
+Fetches old new name (Err _) = ⊥

@@ -1,8 +1,7 @@
 -- The words of a command that shows a file, `load [--machine M] [--page N] [--dump OUT] FILE` or `map --as elf [--machine M] [--page N] FILE`:
 -- options in any order, each with its value behind it, and the file.
-use Rattle.std.specs.Prelude.{ℕ, nat_lt, nat_eq, if◌then◌else◌, ◌&&◌, ◌||◌, not, Bool, true, is_some, is_none, unwrap_or, List, [], ◌∷◌, length, codes, Option, Some, None}
+use Rattle.std.specs.Prelude.{ℕ, if◌then◌else◌, ◌&&◌, ◌||◌, not, Bool, true, is_some, is_none, unwrap_or, List, [], ◌∷◌, codes, Option, Some, None}
 use Rattle.std.specs.Option.{option_map, option_and_then}
-use Rattle.std.specs.List.{starts_with}
 use Rattle.std.specs.Str.{bytes_eq}
 use Rattle.ap_check.specs.declared.machine.Machine.{Machine}
 use Rattle.ap_check.specs.declared.machine.Machine.TheVariants.{X64, A64}
@@ -12,6 +11,7 @@ use Rattle.apetool.specs.declared.format.Form.TheVariants.{Ape, Elf}
 use Rattle.apetool.specs.declared.format.Format.{Format}
 use Rattle.apetool.specs.declared.options.Options.{Options}
 use Rattle.apetool.specs.Formats.{has_page}
+use Rattle.apetool.specs.Words.{is_option}
 
 -- a file, and the format to read it by
 pub record View : Type 0 where
@@ -28,10 +28,6 @@ pub record Given : Type 0 where
 
 abbrev pub no_options : Options
 no_options = record { form = None; machine = None; page = None }
-
--- a word that begins as an option does
-abbrev pub is_option : List ℕ → Bool
-is_option word = nat_lt 1 (length word) && starts_with nat_eq word (codes "-")
 
 abbrev pub machine_named : List ℕ → Option Machine
 machine_named name = if bytes_eq name (codes "x86-64") then Some X64 else (if bytes_eq name (codes "aarch64") then Some A64 else None)

@@ -7,12 +7,16 @@ ghost use Rattle.apetool.specs.Dumps.{PartsAnswer, MakesParts, DumpEnds, Picture
 use crate::end::{Cause, ReadingFault};
 use crate::fetch::fetch;
 use crate::format::Format;
-use crate::show::{cause_of, print_text};
+use crate::planned::plan_of;
+use crate::show::print_text;
 use crate::store::store;
 use crate::text::plan_text;
 use ap_files::{Files, Sink};
-use ap_image::{DumpFault, Plan};
+use ap_image::{DumpFault, Plan, address_count};
 use std::alloc::Global;
+
+/// The most addresses of a plan whose image file is made: 2^30.
+const WIDEST: u64 = 1 << 30;
 
 /// What is made of a file.
 #[derive(Drop)]
@@ -55,26 +59,30 @@ fn parts_of<F: Files>(
     requires { IsPage format.now.machine format.now.page }
     ensures { PartsAnswer (F.state files.old) (F.state files.new) format.now name.now result }
 {
-    match fetch(alloc, files, name) {
-        Ok(file) => made_of(alloc, format, &file),
-        Err(fault) => Err(cause_of(fault)),
+    let planned = match plan_of(files, format, name) {
+        Ok(planned) => planned,
+        Err(cause) => return Err(cause),
+    };
+    let total = address_count(&planned.plan);
+    if total > WIDEST {
+        return Err(Cause::Unread(ReadingFault::Wide { total }));
+    }
+    match fetch(alloc, files, name, planned.size) {
+        Ok(file) => made_of(alloc, &planned.plan, &file),
+        Err(cause) => Err(cause),
     }
 }
 
-// What is made of a file's bytes.
-fn made_of(alloc: Global, format: &Format, file: &[u8]) -> Result<Parts, Cause>
-    requires { IsPage format.now.machine format.now.page }
-    ensures { MakesParts format.now file.now result }
+// What is made of a plan over a file.
+fn made_of(alloc: Global, plan: &Plan, file: &[u8]) -> Result<Parts, Cause>
+    requires { AreBacked plan.now.regions (length file.now) }
+    ensures { MakesParts plan.now file.now result }
 {
-    let plan = match format.plan(file) {
-        Ok(plan) => plan,
-        Err(fault) => return Err(Cause::Unread(fault)),
-    };
-    let image = match image_of(alloc, &plan, file) {
+    let image = match image_of(alloc, plan, file) {
         Ok(image) => image,
         Err(cause) => return Err(cause),
     };
-    match plan_text(alloc, &plan) {
+    match plan_text(alloc, plan) {
         Ok(text) => Ok(Parts { image, text }),
         Err(_) => Err(Cause::NoMemory),
     }

@@ -35,7 +35,7 @@ pub enum ReadingFault {
 pub enum Cause {
     /// The command did its work.
     Done,
-    /// The input breaks a rule, and this is the first one.
+    /// The inputs break a rule, and this is the first one.
     Refused(Fault),
     /// The file isn't taken.
     Unread(ReadingFault),

@@ -7,10 +7,12 @@ mod fetch;
 mod format;
 mod line;
 mod options;
+mod planned;
 mod print;
 mod run;
 mod show;
 mod store;
+mod systems;
 mod text;
 mod words;
 

@@ -6,6 +6,7 @@ ghost use Rattle.apetool.specs.Words.{texts_of};
 ghost use Rattle.apetool.specs.Options as spec;
 
 use crate::format::{Form, Format, has_page};
+use crate::words::is_option;
 use ap_check::Machine;
 
 /// What the options say, where they are given.
@@ -121,13 +122,6 @@ fn dump_named<'a>(dump: Option<&'a str>, value: &'a str) -> Option<&'a str>
     } else {
         Some(value)
     }
-}
-
-// Whether a word begins as an option does.
-fn is_option(word: &str) -> bool
-    ensures { result ≡ spec.is_option word.now }
-{
-    word.len() > 1 && word.as_bytes().starts_with(b"-")
 }
 
 // The format of a command.

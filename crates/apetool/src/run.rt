@@ -1,9 +1,12 @@
 // A run of the program.
-ghost use Rattle.std.specs.Prelude.{◌≡◌, ◌≢◌};
-ghost use Rattle.apetool.specs.Words.{texts_of};
+ghost use Rattle.std.specs.Prelude.{◌≡◌, ◌≢◌, ℕ, List, Some, IfSome};
+ghost use Rattle.apetool.specs.Words.{link_names, texts_of};
 ghost use Rattle.apetool.specs.Ends.{LinkEnds, ViewEnds, RunEnds, IsComplete, status_of};
 ghost use Rattle.std.specs.Option.{option_copied};
 ghost use Rattle.ap_elfmap.specs.ElfPlans.{IsPage};
+ghost use Rattle.ap_image.specs.Reading.{IsPlanOf};
+ghost use Rattle.apetool.specs.Formats.{plan_in, reading_in};
+ghost use Rattle.apetool.specs.Options.{View as WordsView, view_in};
 ghost use Rattle.apetool.specs.Lines.{line_of};
 ghost use Rattle.apetool.specs.Prints.{Reports};
 
@@ -11,15 +14,19 @@ use crate::dump::dump;
 use crate::end::{Cause, End, end_by};
 use crate::options::{View, read_view};
 use crate::show::show;
-use crate::words::read_link;
+use crate::words::{Link, read_link};
+use ap_check::Options;
 use ap_files::{Files, Sink};
-use ap_link::{LinkEnd, link_file};
+use ap_link::{LinkEnd, link_stream};
 use std::alloc::Global;
 
 /// Does what the words say over these files, and answers how it ended. `words` doesn't have the program's name.
 ///
 /// `load` and `map` print a plan on `out`, and `load --dump` writes its image file before; a link prints nothing there.
 /// Where the status isn't 0, one line on `err` says why.
+///
+/// A plan has, at each address, the byte and the permissions that the format's reading gives of the file, and the entry
+/// that it gives; a file is refused with the reading's own fault. This is said of each file, whatever it holds.
 pub fn run<F: Files, O: Sink, E: Sink>(
     alloc: Global,
     words: &[String],
@@ -30,6 +37,7 @@ pub fn run<F: Files, O: Sink, E: Sink>(
     ensures status { result.status ≡ status_of result.cause }
     ensures ends { RunEnds (F.state files.old) (F.state files.new) (O.state out.old) (O.state out.new) (texts_of words.now) result.cause }
     ensures complete { IsComplete (F.state files.old) (F.state files.new) (O.state out.old) (O.state out.new) (texts_of words.now) result.cause }
+    ensures cells { (view : WordsView) (file : List ℕ) → view_in (texts_of words.now) ≡ Some view → IsPlanOf (plan_in view.format file) file (reading_in view.format file) }
     ensures err { Reports (E.state err.old) (E.state err.new) (line_of result.cause) }
 {
     let cause = obey(alloc, words, files, out);
@@ -40,7 +48,7 @@ fn obey<F: Files, O: Sink>(alloc: Global, words: &[String], files: &mut F, out: 
     ensures { RunEnds (F.state files.old) (F.state files.new) (O.state out.old) (O.state out.new) (texts_of words.now) result }
 {
     if let Some(names) = read_link(words) {
-        return link(alloc, files, names.out, names.input);
+        return link(files, &names);
     }
     match read_view(words) {
         Some(view) => show_view(alloc, files, out, &view),
@@ -58,15 +66,19 @@ fn show_view<F: Files, O: Sink>(alloc: Global, files: &mut F, out: &mut O, view:
     }
 }
 
-fn link<F: Files>(alloc: Global, files: &mut F, out: &str, input: &str) -> Cause
-    requires { input.now ≢ out.now }
-    ensures { LinkEnds (F.state files.old) (F.state files.new) (record { out = out.now; input = input.now }) result }
+fn link<F: Files>(files: &mut F, names: &Link<'_>) -> Cause
+    requires first { names.now.first.now ≢ names.now.out.now }
+    requires second { IfSome (option_copied names.now.second) (λ n. n ≢ names.now.out.now) }
+    ensures { LinkEnds (F.state files.old) (F.state files.new) (link_names names.now) result }
 {
-    match link_file(alloc, files, input, out) {
-        Ok(()) => Cause::Done,
+    let options = Options {
+        systems: names.systems,
+        debug: false,
+    };
+    match link_stream(names.first, names.second, &options, names.out, files) {
+        Ok(_) => Cause::Done,
         Err(LinkEnd::Rule(fault)) => Cause::Refused(fault),
         Err(LinkEnd::ReadFault) => Cause::ReadFault,
         Err(LinkEnd::WriteFault) => Cause::WriteFault,
-        Err(LinkEnd::NoMemory) => Cause::NoMemory,
     }
 }

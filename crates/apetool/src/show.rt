@@ -1,15 +1,14 @@
 // Files that are shown.
 ghost use Rattle.ap_elfmap.specs.ElfPlans.{IsPage};
-ghost use Rattle.std.specs.Prelude.{◌≡◌};
-ghost use Rattle.apetool.specs.Shows as spec;
 ghost use Rattle.apetool.specs.Shows.{Answers, Ends, Makes, Printed};
 
-use crate::end::{Cause, ReadingFault};
-use crate::fetch::{Unfetched, fetch};
+use crate::end::Cause;
 use crate::format::Format;
+use crate::planned::plan_of;
 use crate::print::print;
 use crate::text::plan_text;
 use ap_files::{Files, Sink};
+use ap_image::Plan;
 use std::alloc::Global;
 
 /// Prints the plan of a file by a format on `out`, and answers how that ended.
@@ -48,30 +47,14 @@ fn text_of<F: Files>(
     requires { IsPage format.now.machine format.now.page }
     ensures { Answers (F.state files.old) (F.state files.new) format.now name.now result }
 {
-    match fetch(alloc, files, name) {
-        Ok(file) => made_of(alloc, format, &file),
-        Err(fault) => Err(cause_of(fault)),
+    match plan_of(files, format, name) {
+        Ok(planned) => made_of(alloc, &planned.plan),
+        Err(cause) => Err(cause),
     }
 }
 
-pub fn cause_of(fault: Unfetched) -> Cause
-    ensures { result ≡ spec.cause_of fault }
+fn made_of(alloc: Global, plan: &Plan) -> Result<Vec<u8>, Cause>
+    ensures { Makes plan.now result }
 {
-    match fault {
-        Unfetched::Large(size) => Cause::Unread(ReadingFault::Large { size }),
-        Unfetched::Read => Cause::ReadFault,
-        Unfetched::Memory => Cause::NoMemory,
-    }
-}
-
-// The text of the plan of a file's bytes.
-fn made_of(alloc: Global, format: &Format, file: &[u8]) -> Result<Vec<u8>, Cause>
-    requires { IsPage format.now.machine format.now.page }
-    ensures { Makes format.now file.now result }
-{
-    let plan = match format.plan(file) {
-        Ok(plan) => plan,
-        Err(fault) => return Err(Cause::Unread(fault)),
-    };
-    plan_text(alloc, &plan).map_err(|_| Cause::NoMemory)
+    plan_text(alloc, plan).map_err(|_| Cause::NoMemory)
 }

@@ -1,7 +1,7 @@
 // Files that are written whole.
 ghost use Rattle.apetool.specs.Stores.{Stores};
 
-use ap_files::{Failed, Files};
+use ap_files::{Failed, Files, append};
 
 /// Makes a file of these bytes.
 ///
@@ -10,9 +10,6 @@ pub fn store<F: Files>(files: &mut F, name: &str, bytes: &[u8]) -> Result<(), Fa
     ensures { Stores (F.state files.old) (F.state files.new) name.now bytes.now result }
 {
     files.start(name)?;
-    let mut at = 0;
-    while at < bytes.len() {
-        at += files.add(name, &bytes[at..])?;
-    }
+    append(files, name, bytes)?;
     files.finish(name)
 }

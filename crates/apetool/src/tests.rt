@@ -2,8 +2,15 @@
 mod dumps;
 mod example;
 mod failures;
+mod foreign;
 mod lines;
+mod linked;
+mod looks;
+mod programs;
+mod refusals;
+mod rules;
 mod sized;
+mod two;
 mod views;
 
 use crate::end::{Cause, End};
@@ -47,42 +54,78 @@ static PLACED: [Placed; 2] = [
 /// The rule, the item and the value of a fault.
 type Broken = (u8, u16, u64);
 
-/// The edits and the length of an input that is refused.
-static REFUSED: [(&[Edit], usize, Broken); 7] = [
-    (&[], 63, (2, 0, 63)),
-    (&[(56, b"\0")], 64, (10, 0, 0)),
-    (&[], 0, (2, 0, 0)),
-    (&[(18, b"\xb7")], 144, (0, 1, 183)),
-    (&[(56, b"\x02")], 200, (0, 2, 2)),
-    (&[(40, b"\x40"), (60, b"\x03")], 144, (0, 3, 3)),
-    (&[(68, b"\x07")], 144, (17, 1, 7)),
-];
+/// The room for an output.
+const ROOM: usize = 700_000;
 
 /// The words of a link.
 const LINK: &[&str] = &["link", "--systems", "linux", "-o", "out", "in"];
 
+/// Words that link the program for Linux.
+static LINK_WORDS: [&[&str]; 5] = [
+    LINK,
+    &["link", "in", "-o", "out", "--systems", "linux"],
+    &["link", "--systems", "linux,linux", "-o", "out", "in"],
+    &["link", "-o", "out", "--systems", "linux", "in"],
+    &["link", "-o", "out", "in", "--systems", "linux"],
+];
+
 /// Words that are no command.
-static OTHER_WORDS: [&[&str]; 11] = [
+static OTHER_WORDS: [&[&str]; 26] = [
     &["load", "--dump", "in", "in"],
     &["load", "--dump", "a", "--dump", "b", "in"],
     &["map", "--as", "elf", "--dump", "out", "in"],
+    &["load", "--systems", "linux", "in"],
     &[],
     &["link"],
     &["link", "in"],
+    &["link", "--help"],
+    &["link", "-o", "out", "in"],
+    &["link", "--systems", "linux", "in"],
+    &["link", "--systems", "linux", "-o", "out"],
     &["link", "--systems", "linux", "-o", "in", "in"],
+    &["link", "--systems", "linux", "-o", "in", "a", "in"],
     &["link", "--systems", "linux,beos", "-o", "out", "in"],
-    &["load", "--systems", "linux", "in"],
-    &["link", "-o", "out", "--systems", "linux", "in"],
-    &["link", "--systems", "linux", "-o", "out", "in", "in"],
+    &["link", "--systems", "linux,", "-o", "out", "in"],
+    &["link", "--systems", "", "-o", "out", "in"],
+    &["link", "--systems", "Linux", "-o", "out", "in"],
+    &[
+        "link",
+        "--systems",
+        "windows",
+        "--debug-magic",
+        "-o",
+        "out",
+        "in",
+    ],
+    &["link", "--systems", "mac", "-o", "out", "in"],
+    &[
+        "link",
+        "--systems",
+        "linux",
+        "--systems",
+        "linux",
+        "-o",
+        "out",
+        "in",
+    ],
+    &["link", "--systems", "linux", "-o", "out", "-o", "out", "in"],
+    &["link", "--systems", "linux", "-o", "-x", "in"],
+    &["link", "--systems", "linux", "-o", "out", "-x"],
+    &["link", "--systems", "linux", "in", "-o", "out", "other"],
+    &["link", "--systems", "linux", "-o", "out", "a", "b", "in"],
+    &["trial", "7", "0"],
 ];
 
 #[test]
 fn each_byte_of_a_plain_program_is_linked(rt: HostRuntime) {
     let expected = plain_linked(&rt, rt.alloc());
-    let mut files = files_of(&rt, rt.alloc(), plain(), &[]);
-    assert_ends(&rt, rt.alloc(), &mut files, 0, Cause::Done);
-    assert!(rt; holds(&files, "out", &expected));
-    assert!(rt; holds(&files, "in", plain()));
+    for words in &LINK_WORDS {
+        let mut files = files_of(&rt, rt.alloc(), plain(), &[]);
+        let end = obey(&rt, rt.alloc(), &mut files, words);
+        assert!(rt; is_end(end, 0, Cause::Done), "{words:?}");
+        assert!(rt; holds(&files, "out", &expected));
+        assert!(rt; holds(&files, "in", plain()));
+    }
 }
 
 #[test]
@@ -108,16 +151,9 @@ fn a_large_load_is_linked_piece_by_piece(rt: HostRuntime) {
 }
 
 #[test]
-fn the_first_broken_rule_is_answered_and_nothing_started(rt: HostRuntime) {
-    for (edits, length, broken) in &REFUSED {
-        assert_refused(&rt, rt.alloc(), edits, *length, *broken);
-    }
-}
-
-#[test]
 fn a_missing_input_is_a_failed_read(rt: HostRuntime) {
     let mut files = MemoryFiles::new(rt.alloc(), &[]).expect(&rt, "memory");
-    files.reserve("out", 70_000).expect(&rt, "memory");
+    files.reserve("out", ROOM).expect(&rt, "memory");
     assert_ends(&rt, rt.alloc(), &mut files, 3, Cause::ReadFault);
     assert!(rt; !has_output(&files));
 }
@@ -133,7 +169,7 @@ fn other_words_are_a_usage(rt: HostRuntime) {
 fn files_of(rt: &impl Abort, alloc: Global, input: &[u8], fails: &[u64]) -> MemoryFiles {
     let mut files = MemoryFiles::new(alloc, fails).expect(rt, "memory");
     files.put("in", input).expect(rt, "memory");
-    files.reserve("out", 70_000).expect(rt, "memory");
+    files.reserve("out", ROOM).expect(rt, "memory");
     files
 }
 
@@ -177,14 +213,6 @@ fn assert_placed(rt: &impl Abort, alloc: Global, placed: &Placed) {
     let mut files = files_of(rt, alloc, &input, &[]);
     assert_ends(rt, alloc, &mut files, 0, Cause::Done);
     assert!(rt; is_placed(output(&files), placed));
-}
-
-/// The program with these edits is refused, and nothing is written.
-fn assert_refused(rt: &impl Abort, alloc: Global, edits: &[Edit], length: usize, broken: Broken) {
-    let input = edited(rt, alloc, edits, length);
-    let mut files = files_of(rt, alloc, &input, &[]);
-    assert_ends(rt, alloc, &mut files, 1, refused(broken));
-    assert!(rt; !has_output(&files));
 }
 
 /// Nothing is done by these words, although the first call fails.

@@ -1,6 +1,7 @@
 // Plans that are printed.
 use super::example::{Edit, edited, plain_linked};
-use super::{files_of, words_of};
+use super::foreign::{TWO_TEXT, two_loads};
+use super::{assert_ends, files_of, words_of};
 use crate::end::{Cause, End};
 use crate::run::run;
 use ap_files::{MemoryFiles, MemorySink};
@@ -20,11 +21,15 @@ struct View {
 }
 
 /// The program with its load at 4096.
-const AT_4096: &[Edit] = &[(72, b"\0\x10")];
+pub const AT_4096: &[Edit] = &[(72, b"\0\x10")];
 
 /// The text of the linked program's plan.
 pub const LINKED_TEXT: &[u8] = b"entry 0000000000401000\n\
     0000000000401000 0000000000001000 0000000000001000 0000000000004000 r-x\n";
+
+/// The text of the plan of the program whose load has no bytes in the file.
+const EMPTY_TEXT: &[u8] = b"entry 0000000000401000\n\
+    0000000000401000 0000000000001000 0000000000000000 0000000000000000 r-x\n";
 
 const USAGE: &[u8] = b"apetool: usage: apetool link|load|map|script|assimilate|inspect|trial ...\n";
 
@@ -145,21 +150,49 @@ fn other_linked_files_are_refused(rt: HostRuntime) {
 }
 
 #[test]
-fn a_failing_print_leaves_a_front_of_the_text(rt: HostRuntime) {
-    for (failing, printed) in [(1, 0), (50, 49)] {
-        let mut files = linked(&rt, rt.alloc(), &[], 20480);
-        let mut out = sink(&rt, rt.alloc(), &[failing]);
-        out.slow(1);
-        let mut err = sink(&rt, rt.alloc(), &[]);
-        let end = load(&rt, rt.alloc(), &mut files, &mut out, &mut err);
-        assert!(rt; end.status == 4 && end.cause == Cause::OutFault);
-        assert!(rt; is_front(out.bytes(), printed));
-        assert!(rt; err.bytes() == b"apetool: cannot print\n".as_slice());
-    }
+fn a_load_without_bytes_is_linked_and_loaded(rt: HostRuntime) {
+    let input = edited(&rt, rt.alloc(), &[(96, b"\0")], 144);
+    let mut files = files_of(&rt, rt.alloc(), &input, &[]);
+    assert_ends(&rt, rt.alloc(), &mut files, 0, Cause::Done);
+    let (mut out, mut err) = (sink(&rt, rt.alloc(), &[]), sink(&rt, rt.alloc(), &[]));
+    let words = words_of(&rt, rt.alloc(), &["load", "out"]);
+    let end = run(rt.alloc(), &words, &mut files, &mut out, &mut err);
+    assert!(rt; end.cause == Cause::Done && out.bytes() == EMPTY_TEXT);
 }
 
-fn is_front(bytes: &[u8], length: usize) -> bool {
-    bytes.len() == length && LINKED_TEXT.starts_with(bytes)
+#[test]
+fn each_failing_write_leaves_a_front_of_the_text(rt: HostRuntime) {
+    let mut printed = 0;
+    for k in 1..200u64 {
+        let mut out = sink(&rt, rt.alloc(), &[k]);
+        out.slow(1);
+        let status = load_failing(&rt, rt.alloc(), &mut out);
+        printed = out.bytes().len();
+        assert!(rt; TWO_TEXT.starts_with(out.bytes()));
+        if status == 0 {
+            break;
+        }
+        assert!(rt; printed as u64 + 1 == k);
+    }
+    assert_eq!(rt; printed, TWO_TEXT.len());
+}
+
+/// The status of a load whose print may fail.
+fn load_failing(rt: &impl Abort, alloc: Global, out: &mut MemorySink) -> u8 {
+    let mut files = two_loads(rt, alloc, &[]);
+    let mut err = sink(rt, alloc, &[]);
+    let end = load(rt, alloc, &mut files, out, &mut err);
+    assert!(rt; is_printed_or_not(end.cause, err.bytes()));
+    end.status
+}
+
+/// Whether a load ended well, or at a failed print, with its line.
+fn is_printed_or_not(cause: Cause, line: &[u8]) -> bool {
+    match cause {
+        Cause::Done => line.is_empty(),
+        Cause::OutFault => line == b"apetool: cannot print\n".as_slice(),
+        _ => false,
+    }
 }
 
 /// The linked program as the file `in`, with other bytes at some places, and cut to a length.

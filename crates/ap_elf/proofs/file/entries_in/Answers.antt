@@ -1,7 +1,7 @@
 use Rattle.std.proofs.Common.{◌∙◌, ap, take, drop, arith, length, ◌*◌}
 use Rattle.std.proofs.lemmas.List.{length-take-le}
 use Rattle.ap_files.proofs.ReadLemmas.{same_state}
-use Rattle.ap_elf.proofs.Tables.{table-read, length-entries_from}
+use Rattle.ap_elf.proofs.EntryTables.{table-read, length-entries_from}
 use Rattle.ap_elf.proofs.file.entries_in.Goals as goal
 
 pub returns-in-Ok-clause-read : goal.returns-in-Ok-clause-read

@@ -1,6 +1,6 @@
 use Rattle.std.proofs.Common.{◌∙◌}
 use Rattle.ap_files.proofs.ReadLemmas.{same_state}
-use Rattle.ap_elf.proofs.Tables.{header-read}
+use Rattle.ap_elf.proofs.EntryTables.{header-read}
 use Rattle.ap_elf.proofs.file.header_in.Goals as goal
 
 pub returns-in-Ok : goal.returns-in-Ok

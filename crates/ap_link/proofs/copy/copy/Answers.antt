@@ -1,6 +1,6 @@
-use Rattle.std.proofs.Common.{◌≡◌, ◌≤◌, ◌+◌, [], refl, arith, length, take}
+use Rattle.std.proofs.Common.{◌≡◌, ◌≤◌, ◌+◌, [], refl, arith, length, take, drop, length-append, length-drop}
 use Rattle.std.proofs.lemmas.List.{length-take-le}
-use Rattle.ap_link.proofs.Growing.{grows-nothing}
+use Rattle.ap_files.proofs.Growing.{grows-nothing}
 use Rattle.ap_link.proofs.Copying.{copy-range, copy-present, copy-unread, copy-unwritten, copy-turn}
 use Rattle.ap_link.proofs.copy.copy.Goals as goal
 
@@ -13,7 +13,7 @@ loop-done-init g c = record {
     told = λ m b k at. refl;
     counts = record { read_faults = refl; write_faults = refl; absences = refl };
   };
-  room = c.requires.room;
+  room = refl;
 }
 
 pub read_at-requires : goal.read_at-requires
@@ -52,5 +52,10 @@ loop-done-preserved g c =
       far = copy-turn (g.F.Files.state c.args.files.now) (g.F.Files.state c.loop-done.files) (g.F.Files.state c.read_at.new.self) (g.F.Files.state c.append.new.files)
           c.args.input.now c.args.out.now c.args.from c.args.count c.loop-done.done size (take size c.loop-done.buffer) c.read_at.new.buf
           c.loop-done.invariant.far c.requires.apart c.requires.range within long c.in_default.ensures c.in_default-append.ensures;
-      room = grind arith;
+      room =
+          let whole = length-append c.read_at.new.buf (drop size c.loop-done.buffer) in
+          let rest = length-drop size c.loop-done.buffer in
+          let same = c.read_at.auto.buf in
+          let before = c.loop-done.invariant.room in
+          omega arith;
     }

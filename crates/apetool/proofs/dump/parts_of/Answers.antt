@@ -1,17 +1,19 @@
-use Rattle.std.proofs.Common.{Err, sym, subst}
-use Rattle.apetool.specs.declared.end.Cause.{Cause}
-use Rattle.apetool.specs.Dumps.{PartsAnswer, MakesParts}
-use Rattle.apetool.proofs.Dumping.{parts-unread, parts-made}
+use Rattle.std.proofs.Common.{subst, arith}
+use Rattle.apetool.specs.Dumps.{MakesParts}
+use Rattle.apetool.proofs.Dumping.{parts-refused, parts-wide, parts-made}
 use Rattle.apetool.proofs.dump.parts_of.Goals as goal
-
-pub returns-in-Ok : goal.returns-in-Ok
-returns-in-Ok g c =
-    parts-made (g.F.Files.state c.args.files.now) (g.F.Files.state c.fetch.new.files) c.args.format.now c.args.name.now c.in-Ok.file.items c.made_of.result c.in-Ok.ensures
-    (subst (λ bytes. MakesParts c.args.format.now bytes c.made_of.result) c.deref.ensures.value c.made_of.ensures)
 
 pub returns-in-Err : goal.returns-in-Err
 returns-in-Err g c =
-    let old = g.F.Files.state c.args.files.now in
-    let new = g.F.Files.state c.fetch.new.files in
-    subst (λ (cause : Cause). PartsAnswer old new c.args.format.now c.args.name.now (Err cause)) (sym c.cause_of.ensures)
-    (parts-unread old new c.args.format.now c.args.name.now c.in-Err.fault c.in-Err.ensures)
+    parts-refused (g.F.Files.state c.args.files.now) (g.F.Files.state c.plan_of.new.files) c.args.format.now c.args.name.now c.in-Err.cause c.in-Err.ensures.plan
+
+pub returns-then-total-gt-WIDEST : goal.returns-then-total-gt-WIDEST
+returns-then-total-gt-WIDEST g c =
+    parts-wide (g.F.Files.state c.args.files.now) (g.F.Files.state c.plan_of.new.files) c.args.format.now c.args.name.now c.in-Ok.planned c.address_count-total.result c.in-Ok.ensures.plan
+    c.address_count-total.ensures (omega arith)
+
+pub returns-in-Ok-fetch : goal.returns-in-Ok-fetch
+returns-in-Ok-fetch g c =
+    parts-made (g.F.Files.state c.args.files.now) (g.F.Files.state c.plan_of.new.files) (g.F.Files.state c.fetch.new.files) c.args.format.now c.args.name.now c.in-Ok-fetch.file.items c.in-Ok.planned
+    c.made_of.result c.in-Ok.ensures.plan c.in-Ok-fetch.ensures.bytes
+    (subst (λ bytes. MakesParts c.in-Ok.planned.plan bytes c.made_of.result) c.deref.ensures.value c.made_of.ensures)

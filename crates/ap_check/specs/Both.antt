@@ -1,0 +1,38 @@
+-- One or two inputs together.
+use Rattle.std.specs.Prelude.{◌≡◌, ℕ, ◌==◌, not, List, [], ◌∷◌, ◌++◌, Option, Some, None}
+use Rattle.ap_fields.specs.FirstFault.{Rules, first_fault}
+use Rattle.ap_elf.specs.Fields.{header_of}
+use Rattle.ap_check.specs.declared.fault.Fault.{Fault}
+use Rattle.ap_check.specs.Machines.{number_of}
+use Rattle.ap_check.specs.Rules.{fault_of, rules_of, first_fault_of}
+use Rattle.ap_check.specs.Inputs.{Taken, input_of}
+
+-- rule 23: two inputs are for different machines, by the machines' numbers
+abbrev pub machines_rules : ℕ → ℕ → Rules Fault
+machines_rules first second = (not (first == second), fault_of 2 23 0 second) ∷ []
+
+-- rule 23 of what was taken
+abbrev pub pair_rules : Taken → Option Taken → Rules Fault
+pair_rules first None = []
+pair_rules first (Some second) = machines_rules (number_of first.machine) (number_of second.machine)
+
+-- rules 1 to 23, by the bytes of the inputs: all of input 1 before those of input 2
+abbrev pub rules_of_both : List ℕ → Option (List ℕ) → Rules Fault
+rules_of_both first None = rules_of 1 first
+rules_of_both first (Some second) =
+    rules_of 1 first ++ (rules_of 2 second ++ machines_rules (header_of first).e_machine (header_of second).e_machine)
+
+-- the fault of the first rule that one or two inputs break, if any
+abbrev pub first_fault_of_both : List ℕ → Option (List ℕ) → Option Fault
+first_fault_of_both first second = first_fault (rules_of_both first second)
+
+-- it is what is taken of bytes that break no rule
+abbrev pub IsTakenOf : ℕ → List ℕ → Taken → Type 0
+IsTakenOf n b i = (first_fault_of n b ≡ None) × (i ≡ input_of n b)
+
+-- and so are one or two inputs
+abbrev pub AreTakenOf : List ℕ → Option (List ℕ) → Taken → Option Taken → Type 0
+AreTakenOf a None first None = IsTakenOf 1 a first
+AreTakenOf a None first (Some second) = ⊥
+AreTakenOf a (Some b) first None = ⊥
+AreTakenOf a (Some b) first (Some second) = IsTakenOf 1 a first × IsTakenOf 2 b second

@@ -1,0 +1,33 @@
+use Rattle.std.proofs.Common.{◌≡◌, ◌∙◌, ◌&&◌, arith, ap, sym, [], ◌∷◌, ◌+◌, take, drop, length}
+use Rattle.std.specs.Str.{bytes_eq}
+use Rattle.ap_files.proofs.ReadLemmas.{told_of}
+use Rattle.ap_elf.specs.Symbols.{strings_of, stands_at, with_nul}
+use Rattle.ap_elf.proofs.Comparing.{stands_at-file}
+use Rattle.ap_elf.proofs.Reading.{reads-after}
+use Rattle.ap_elf.proofs.compare.stands_in.Goals as goal
+
+pub returns-in-Ok-true : goal.returns-in-Ok-true
+returns-in-Ok-true g c =
+    let t = c.args.t.now in
+    let name = c.args.wanted.now in
+    let first = rw c.in-Ok-true.field-0-test at c.in-Ok-true.ensures in
+    reads-after (g.F.Files.state c.args.files.now) (g.F.Files.state c.agrees_in.new.files) (g.F.Files.state c.agrees_in-in-Ok-true.new.files) c.args.name.now
+    (λ b r. r ≡ bytes_eq (take 1 (drop (t.strings + c.args.at + length name) b)) (0 ∷ []))
+    (λ b r. r ≡ stands_at (strings_of b t) (with_nul name) c.args.at) c.agrees_in-in-Ok-true.result first.0
+    (λ m b told at r is.
+    let ends = told_of (g.F.Files.state c.args.files.now).kept c.args.name.now m b c.requires.told told at in
+    is ∙ ap (λ x. x && bytes_eq (take 1 (drop (t.strings + c.args.at + length name) b)) (0 ∷ [])) (first.1 m b told at)
+    ∙ sym (stands_at-file b name t c.args.at ends (omega arith)))
+    c.agrees_in-in-Ok-true.ensures
+
+pub returns-in-Ok-false : goal.returns-in-Ok-false
+returns-in-Ok-false g c =
+    let t = c.args.t.now in
+    let name = c.args.wanted.now in
+    let first = rw c.in-Ok-false.field-0-test at c.in-Ok-false.ensures in (
+      first.0,
+      λ m b told at.
+          let ends = told_of (g.F.Files.state c.args.files.now).kept c.args.name.now m b c.requires.told told at in
+          ap (λ x. x && bytes_eq (take 1 (drop (t.strings + c.args.at + length name) b)) (0 ∷ [])) (first.1 m b told at)
+          ∙ sym (stands_at-file b name t c.args.at ends (omega arith)),
+    )

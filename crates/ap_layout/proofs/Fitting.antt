@@ -1,0 +1,163 @@
+-- Positions fit, and what follows of that.
+use Rattle.std.proofs.Common.{◌≡◌, ◌⊎◌, inl, inr, ℕ, ◌+◌, ◌<◌, ◌≤◌, eqb, List, [], ◌∷◌, ◌++◌, refl, sym, ap, ◌∙◌, subst, arith, append-nil, Option, Some, None, IfSome}
+use Rattle.std.proofs.lemmas.Bool.{cases_Bool}
+use Rattle.std.proofs.lemmas.Bool.Decides.{nat_tests}
+use Rattle.ap_fields.specs.Granules.{IsGranule}
+use Rattle.ap_fields.specs.declared.sizes.TheConstants.{BLOCK}
+use Rattle.ap_elf.specs.declared.types.Entry.{Entry}
+use Rattle.ap_check.specs.declared.load.Load.{Load}
+use Rattle.ap_check.specs.Machines.{granule_of}
+use Rattle.ap_check.specs.Inputs.{Taken, Meets}
+use Rattle.ap_layout.specs.declared.layout.Area.{Area}
+use Rattle.ap_layout.specs.Areas.{area_of, after, areas_of, end_from, new_areas, Among, Serves, ServeAll}
+use Rattle.ap_layout.specs.Positions.{Fits, FitAll, positions_of, inputs_of, input_areas, no_sharing, joined, one_if, table_length}
+use Rattle.ap_layout.specs.Apart.{Ascend, FittingIsApart, first_areas}
+use Rattle.ap_layout.proofs.Rounded.{granule_of-is, ceil-least}
+use Rattle.ap_layout.proofs.NewAreas.{Within, new-apart, end-append, end-least}
+use Rattle.ap_layout.proofs.Serving.{AllMayServe, areas-serve, nothing-shared, served-end}
+use Rattle.ap_layout.proofs.Walked.{room_of, room_of-is}
+
+-- how far the cursor moves over an input's loads
+end-most : (shares : ℕ → Option Area) (i g : ℕ) (loads : List Load) (c c0 : ℕ) (old : List Area) → IsGranule g → c0 ≤ c → AllMayServe shares i g c0 old loads → end_from c (areas_of shares i g loads c) ≤ c + room_of loads
+end-most shares i g [] c c0 old is up may = omega arith
+end-most shares i g (p ∷ loads) c c0 old is up may =
+    let here = served-end (shares i) g c c0 old p is up may.0 in
+    let rest = end-most shares (i + 1) g loads (after c (area_of (shares i) g p c)) c0 old is (omega arith) may.1 in
+    omega arith
+
+-- the bound of one input, by the rules that it meets
+pub input-end : (e : Taken) (c : ℕ) → Meets e → end_from c (input_areas e c) ≤ c + 269615104
+input-end e c m =
+    let most = end-most no_sharing 0 (granule_of e.machine) e.loads c 0 [] (granule_of-is e.machine) (omega arith) (nothing-shared 0 (granule_of e.machine) 0 [] e.loads) in
+    let room = room_of-is e.loads in
+    let few = m.few in
+    let bytes = m.bytes in
+    omega arith
+
+-- an input's areas serve its loads, whatever follows
+input-serve : (e : Taken) (c : ℕ) (tail : List Area) → BLOCK ≤ c
+    → ServeAll (granule_of e.machine) (new_areas c (input_areas e c ++ tail)) e.loads (input_areas e c) × Within (new_areas (end_from c (input_areas e c)) tail) (new_areas c (input_areas e c ++ tail))
+input-serve e c tail past =
+    areas-serve no_sharing 0 (granule_of e.machine) e.loads c 0 [] (new_areas c (input_areas e c ++ tail)) tail (granule_of-is e.machine) past (omega arith)
+    (λ a h. absurd h) (nothing-shared 0 (granule_of e.machine) 0 [] e.loads) (λ a h. h)
+
+one_if-most : (o : Option Entry) → one_if o ≤ 1
+one_if-most None = omega arith
+one_if-most (Some p) = omega arith
+
+pub table-most : (e : Taken) → Meets e → table_length e ≤ 1736
+table-most e m =
+    let stack = one_if-most e.stack in
+    let tls = one_if-most e.tls in
+    let few = m.few in
+    let five = m.five in
+    omega arith
+
+serve-more : (g : ℕ) (news more : List Area) (loads : List Load) (areas : List Area) → Within news more → ServeAll g news loads areas → ServeAll g more loads areas
+serve-more g news more [] [] sub h = tt
+serve-more g news more [] (a ∷ areas) sub h = h
+serve-more g news more (p ∷ loads) [] sub h = h
+serve-more g news more (p ∷ loads) (a ∷ areas) sub h =
+    let here : Serves g news p a = h.0 in (
+      record { bare = here.bare; len = here.len; granule = here.granule; past = here.past; new = λ some. sub a (here.new some) },
+      serve-more g news more loads areas sub h.1,
+    )
+
+fits-one : (e : Taken) → Meets e → Fits (e ∷ []) (positions_of e None)
+unfolding positions_of
+fits-one e m =
+    let serve = input-serve e BLOCK [] (omega arith) in
+    let most = input-end e BLOCK m in
+    let table = table-most e m in
+    record {
+      areas = (serve.0, (refl, tt));
+      total = ap (end_from BLOCK) (sym (append-nil (input_areas e BLOCK)));
+      small = omega arith;
+      tables = (refl, refl);
+      body = omega arith;
+      mach = omega arith;
+    }
+
+fits-two : (e f : Taken) → Meets e → Meets f → Fits (e ∷ f ∷ []) (positions_of e (Some f))
+unfolding positions_of
+fits-two e f m n =
+    let first : List Area = input_areas e BLOCK in
+    let mid : ℕ = end_from BLOCK first in
+    let second : List Area = input_areas f mid in
+    let tail : List Area = second ++ [] in
+    let past : BLOCK ≤ mid = end-least BLOCK first in
+    let one = input-serve e BLOCK tail (omega arith) in
+    let two = input-serve f mid [] past in
+    let most = input-end e BLOCK m in
+    let more = input-end f mid n in
+    let table = table-most e m in
+    let other = table-most f n in
+    record {
+      areas = (one.0, (serve-more (granule_of f.machine) (new_areas mid tail) (new_areas BLOCK (first ++ tail)) f.loads second one.1 two.0, tt));
+      total = ap (end_from mid) (sym (append-nil second)) ∙ sym (end-append BLOCK first tail);
+      small = omega arith;
+      tables = (refl, (refl, refl));
+      body = omega arith;
+      mach = omega arith;
+    }
+
+-- the positions of inputs that meet the rules fit
+pub positions-fit : (e : Taken) (o : Option Taken) → Meets e → IfSome o (λ f. Meets f) → Fits (inputs_of e o) (positions_of e o)
+positions-fit e None m n = fits-one e m
+positions-fit e (Some f) m n = fits-two e f m n
+
+-- an area that isn't empty and serves one of some loads is new
+served-new : (g : ℕ) (news : List Area) (loads : List Load) (areas : List Area) (a : Area) → ServeAll g news loads areas → Among a areas → 0 < a.len → Among a news
+served-new g news [] [] a h at some = absurd at
+served-new g news [] (b ∷ areas) a h at some = absurd h
+served-new g news (p ∷ loads) [] a h at some = absurd at
+served-new g news (p ∷ loads) (b ∷ areas) a h (inl is) some =
+    let here : Serves g news p b = h.0 in
+    elim (cases_Bool (eqb p.filesz 0)) [
+      | inl z ↦ (let none : p.filesz ≡ 0 = grind (arith, nat_tests) in let empty : a.len ≡ 0 = ap (λ (x : Area). x.len) (is ∙ here.bare none) in absurd (omega arith))
+      | inr s ↦ (let bytes : 0 < p.filesz = grind (arith, nat_tests) in subst (λ (x : Area). Among x news) (sym is) (here.new bytes))
+    ]
+served-new g news (p ∷ loads) (b ∷ areas) a h (inr more) some = served-new g news loads areas a h.1 more some
+
+among-append : (a : Area) (xs ys : List Area) → Among a (xs ++ ys) → Among a xs ⊎ Among a ys
+among-append a [] ys h = inr h
+among-append a (x ∷ xs) ys (inl is) = inl (inl is)
+among-append a (x ∷ xs) ys (inr more) = elim (among-append a xs ys more) [ inl l ↦ inl (inr l) | inr r ↦ inr r ]
+
+fitted-new : (news : List Area) (inputs : List Taken) (lists : List (List Area)) (a : Area) → FitAll news inputs lists → Among a (joined lists) → 0 < a.len → Among a news
+fitted-new news [] [] a h at some = absurd at
+fitted-new news [] (areas ∷ lists) a h at some =
+    elim (among-append a areas (joined lists) at) [
+      | inl l ↦ absurd (subst (Among a) h.0 l)
+      | inr r ↦ fitted-new news [] lists a h.1 r some
+    ]
+fitted-new news (e ∷ inputs) [] a h at some = absurd h
+fitted-new news (e ∷ inputs) (areas ∷ lists) a h at some =
+    elim (among-append a areas (joined lists) at) [
+      | inl l ↦ served-new (granule_of e.machine) news e.loads areas a h.0 l some
+      | inr r ↦ fitted-new news inputs lists a h.1 r some
+    ]
+
+-- areas of positions that fit don't overlap
+pub fitting-apart : FittingIsApart
+fitting-apart inputs l fits a b at bt some more =
+    new-apart BLOCK (joined l.areas) a b
+    (fitted-new (new_areas BLOCK (joined l.areas)) inputs l.areas a fits.areas at some)
+    (fitted-new (new_areas BLOCK (joined l.areas)) inputs l.areas b fits.areas bt more)
+
+area-past : (g : ℕ) (p : Load) (c : ℕ) → IsGranule g → 0 < (area_of None g p c).len → c ≤ (area_of None g p c).file
+area-past g p c is some =
+    elim (cases_Bool (eqb p.filesz 0)) [
+      | inl z ↦ absurd (let none : 0 < 0 = rw z at some in omega arith)
+      | inr s ↦ rw s (ceil-least c g is)
+    ]
+
+areas-ascend : (i g : ℕ) (loads : List Load) (c : ℕ) → IsGranule g → Ascend c (areas_of no_sharing i g loads c)
+areas-ascend i g [] c is = tt
+areas-ascend i g (p ∷ loads) c is = (area-past g p c is, areas-ascend (i + 1) g loads (after c (area_of None g p c)) is)
+
+-- the first input's areas ascend
+pub first-ascend : (e : Taken) (o : Option Taken) → Ascend BLOCK (first_areas (positions_of e o).areas)
+unfolding positions_of
+first-ascend e None = areas-ascend 0 (granule_of e.machine) e.loads BLOCK (granule_of-is e.machine)
+first-ascend e (Some f) = areas-ascend 0 (granule_of e.machine) e.loads BLOCK (granule_of-is e.machine)

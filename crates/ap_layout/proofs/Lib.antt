@@ -1,0 +1,6 @@
+pub mod Rounded
+pub mod NewAreas
+pub mod Serving
+pub mod Walked
+pub mod Fitting
+pub mod Made

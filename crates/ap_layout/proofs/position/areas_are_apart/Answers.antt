@@ -1,0 +1,5 @@
+use Rattle.ap_layout.proofs.Fitting.{fitting-apart}
+use Rattle.ap_layout.proofs.position.areas_are_apart.Goals as goal
+
+pub returns : goal.returns
+returns c = fitting-apart

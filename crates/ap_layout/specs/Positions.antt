@@ -1,0 +1,91 @@
+-- The positions of a linked file's parts, by its inputs, and what stands of them.
+use Rattle.std.specs.Prelude.{◌≡◌, ℕ, ◌+◌, ◌*◌, ◌^◌, ◌<◌, ◌≤◌, List, [], ◌∷◌, ◌++◌, length, Option, Some, None}
+use Rattle.ap_fields.specs.declared.sizes.TheConstants.{BLOCK}
+use Rattle.ap_elf.specs.declared.types.Entry.{Entry}
+use Rattle.ap_check.specs.Machines.{granule_of}
+use Rattle.ap_check.specs.Inputs.{Taken}
+use Rattle.ap_layout.specs.declared.layout.Area.{Area}
+use Rattle.ap_layout.specs.Areas.{areas_of, end_from, new_areas, ServeAll}
+
+-- where the areas of each input, the program header tables, the Mach-O header and the ends stand
+pub record Positions : Type 0 where
+  pub areas : List (List Area)
+  pub tables : List ℕ
+  pub mach_at : ℕ
+  pub mach_len : ℕ
+  pub body_end : ℕ
+  pub total : ℕ
+
+-- where the first program header table stands: behind the here-document's opening and ten zeros
+abbrev pub tables_start : ℕ
+tables_start = 96
+
+abbrev pub one_if : Option Entry → ℕ
+one_if None = 0
+one_if (Some p) = 1
+
+-- how many program headers the linker writes for an input: its loads, its stack's, its notes, its thread-local storage's
+abbrev pub entry_count : Taken → ℕ
+entry_count e = length e.loads + (one_if e.stack + (length e.notes + one_if e.tls))
+
+abbrev pub table_length : Taken → ℕ
+table_length e = 56 * entry_count e
+
+-- nothing is shared so far
+abbrev pub no_sharing : ℕ → Option Area
+no_sharing i = None
+
+-- the areas of an input from a cursor on
+abbrev pub input_areas : Taken → ℕ → List Area
+input_areas e c = areas_of no_sharing 0 (granule_of e.machine) e.loads c
+
+-- the positions of one or two inputs
+unfoldable pub positions_of : Taken → Option Taken → Positions
+positions_of e None = record {
+  areas = input_areas e BLOCK ∷ [] ∷ [];
+  tables = tables_start ∷ [];
+  mach_at = 0;
+  mach_len = 0;
+  body_end = tables_start + table_length e;
+  total = end_from BLOCK (input_areas e BLOCK);
+}
+positions_of e (Some f) = record {
+  areas = input_areas e BLOCK ∷ input_areas f (end_from BLOCK (input_areas e BLOCK)) ∷ [];
+  tables = tables_start ∷ (tables_start + table_length e) ∷ [];
+  mach_at = 0;
+  mach_len = 0;
+  body_end = tables_start + table_length e + table_length f;
+  total = end_from (end_from BLOCK (input_areas e BLOCK)) (input_areas f (end_from BLOCK (input_areas e BLOCK)));
+}
+
+abbrev pub joined : List (List Area) → List Area
+joined [] = []
+joined (areas ∷ more) = areas ++ joined more
+
+-- each input's areas serve its loads; there are no areas without an input
+abbrev pub FitAll : List Area → List Taken → List (List Area) → Type 0
+FitAll news [] [] = Unit {0}
+FitAll news [] (areas ∷ more) = (areas ≡ []) × FitAll news [] more
+FitAll news (e ∷ inputs) [] = ⊥
+FitAll news (e ∷ inputs) (areas ∷ more) = ServeAll (granule_of e.machine) news e.loads areas × FitAll news inputs more
+
+-- so many tables one behind the other, from a place on, each of them as long as its input's
+abbrev pub AreTables : ℕ → List Taken → List ℕ → ℕ → Type 0
+AreTables at [] [] end = end ≡ at
+AreTables at [] (t ∷ tables) end = ⊥
+AreTables at (e ∷ inputs) [] end = ⊥
+AreTables at (e ∷ inputs) (t ∷ tables) end = (t ≡ at) × AreTables (at + table_length e) inputs tables end
+
+-- What writers and readings may suppose of positions: every load is served by an area that is empty or one of the new ones,
+-- of which no two overlap; the tables follow each other, and end below the window.
+pub record Fits (inputs : List Taken) (l : Positions) : Type 0 where
+  pub areas : FitAll (new_areas BLOCK (joined l.areas)) inputs l.areas
+  pub total : l.total ≡ end_from BLOCK (joined l.areas)
+  pub small : l.total < 2 ^ 31
+  pub tables : AreTables tables_start inputs l.tables l.body_end
+  pub body : l.body_end ≤ 3568
+  pub mach : l.mach_at + l.mach_len ≤ BLOCK
+
+abbrev pub inputs_of : Taken → Option Taken → List Taken
+inputs_of e None = e ∷ []
+inputs_of e (Some f) = e ∷ f ∷ []

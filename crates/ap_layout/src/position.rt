@@ -1,0 +1,72 @@
+// The positions of a linked file's parts.
+ghost use Rattle.std.specs.Prelude.{◌≡◌, None, Some, option_copied};
+ghost use Rattle.ap_fields.specs.declared.sizes.TheConstants.{BLOCK};
+ghost use Rattle.ap_layout.specs.Apart.{AllApart, Ascend, FittingIsApart, first_areas};
+ghost use Rattle.ap_layout.specs.Positions.{positions_of, inputs_of, joined, Fits};
+
+use crate::areas::areas_from;
+use crate::layout::Layout;
+use crate::tables::table_length;
+use ap_check::{Input, Job};
+use ap_fields::BLOCK;
+use arrayvec::ArrayVec;
+
+/// Where the first program header table stands: behind the here-document's opening and ten zeros.
+const TABLES: u32 = 96;
+
+/// The positions of a linked file's parts: one area for each load that has bytes in its input's file, on the granules of
+/// its input's machine, in the order of the inputs and of their loads behind the block; and the program header tables,
+/// one behind the other.
+pub fn place(job: &Job<'_>) -> Layout
+    ensures positions { result ≡ positions_of job.now.first.now (option_copied job.now.second) }
+    ensures fits { Fits (inputs_of job.now.first.now (option_copied job.now.second)) result }
+    ensures apart { AllApart (joined result.areas) }
+    ensures ascend { Ascend BLOCK (first_areas result.areas) }
+{
+    match job.second {
+        None => place_one(job.first),
+        Some(second) => place_two(job.first, second),
+    }
+}
+
+/// No two areas of positions that fit overlap.
+pub fn areas_are_apart()
+    ensures { FittingIsApart }
+{}
+
+fn place_one(e: &Input) -> Layout
+    ensures positions { result ≡ positions_of e.now None }
+    ensures fits { Fits (inputs_of e.now None) result }
+{
+    let placed = areas_from(e, BLOCK as u64);
+    let mut tables = ArrayVec::new();
+    tables.push(TABLES);
+    Layout {
+        areas: [placed.areas, ArrayVec::new()],
+        tables,
+        mach_at: 0,
+        mach_len: 0,
+        body_end: TABLES + table_length(e),
+        total: placed.end,
+    }
+}
+
+fn place_two(e: &Input, f: &Input) -> Layout
+    ensures positions { result ≡ positions_of e.now (Some f.now) }
+    ensures fits { Fits (inputs_of e.now (Some f.now)) result }
+{
+    let first = areas_from(e, BLOCK as u64);
+    let second = areas_from(f, first.end);
+    let behind = TABLES + table_length(e);
+    let mut tables = ArrayVec::new();
+    tables.push(TABLES);
+    tables.push(behind);
+    Layout {
+        areas: [first.areas, second.areas],
+        tables,
+        mach_at: 0,
+        mach_len: 0,
+        body_end: behind + table_length(f),
+        total: second.end,
+    }
+}

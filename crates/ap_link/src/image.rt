@@ -1,0 +1,14 @@
+// What the readings find in a linked file.
+ghost use Rattle.ap_link.specs.Images.{ElfIsSame, ApeIsSame};
+
+/// A linked file with an input's header over its first bytes is read as the input's image by the ELF reading, for each page
+/// size of the input's machine.
+pub fn elf_is_same()
+    ensures { ElfIsSame }
+{}
+
+/// A linked file is read with an input's header as the input's image by the APE reading, for each page size of the input's
+/// machine.
+pub fn ape_is_same()
+    ensures { ApeIsSame }
+{}

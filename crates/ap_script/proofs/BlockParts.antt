@@ -1,0 +1,209 @@
+-- The parts of the block: how long they are, and what they hold.
+use Rattle.std.proofs.Common.{◌≡◌, ℕ, zero, suc, ◌+◌, ◌-◌, ◌/◌, ◌%◌, ◌≤◌, ◌==◌, not, true, List, [], ◌∷◌, ◌++◌, length, get_or, refl, sym, ap, ◌∙◌, arith, length-append, append_assoc, subst}
+use Rattle.std.specs.Prelude.{codes}
+use Rattle.std.proofs.lemmas.Bool.Decides.{nat_tests}
+use Rattle.std.proofs.lemmas.List.{length-replicate}
+use Rattle.ap_fields.specs.declared.sizes.TheConstants.{BLOCK, WINDOW}
+use Rattle.ap_fields.specs.Bytes.{zeros, Holds}
+use Rattle.ap_fields.proofs.Bytes.{length-zeros, holds-part}
+use Rattle.ap_loader.specs.Embedded.{has_magic}
+use Rattle.ap_check.specs.declared.options.Systems.{Systems}
+use Rattle.ap_check.specs.declared.machine.Machine.TheVariants.{X64, A64}
+use Rattle.ap_check.specs.Inputs.{Taken}
+use Rattle.ap_layout.specs.Areas.{new_areas}
+use Rattle.ap_layout.specs.Positions.{Positions, Fits, joined, tables_start}
+use Rattle.ap_script.specs.Script.{header_for}
+use Rattle.ap_script.specs.Delimiter.{digits_of, delimiter, delimiter_number}
+use Rattle.ap_script.specs.Blocks.{opening, tables_text, body_of, closing, script_for, shell_text, spaces, block_of}
+use Rattle.ap_script.specs.Stands.{HoldsTables}
+use Rattle.ap_script.proofs.Quotes.{has_no_quote, is_clear, is_bare, bare-append, bare-clear, bare-no_quote, no_quote-append}
+use Rattle.ap_script.proofs.DelimiterWords.{length-delimiter}
+use Rattle.ap_script.proofs.TableLengths.{length-tables, holds-tables}
+use Rattle.ap_script.proofs.ScriptParts.{header-is, length-script}
+
+-- ---- lengths
+
+pub length-opening : (number : ℕ) → length (opening number) ≡ 86
+unfolding opening
+length-opening number =
+    let z = length-zeros 55 in
+    let d = length-delimiter number in
+    let a = length-append (codes "jartsr='\n") (zeros 55 ++ (codes "' <<'" ++ (delimiter number ++ codes "'\n"))) in
+    let b = length-append (zeros 55) (codes "' <<'" ++ (delimiter number ++ codes "'\n")) in
+    let c = length-append (codes "' <<'") (delimiter number ++ codes "'\n") in
+    let e = length-append (delimiter number) (codes "'\n") in
+    omega arith
+
+pub length-body : (inputs : List Taken) (l : Positions) → Fits inputs l → 86 + length (body_of inputs l) ≡ l.body_end
+unfolding body_of
+length-body inputs l fits =
+    let a = length-append (zeros 10) (tables_text inputs l.areas) in
+    let z = length-zeros 10 in
+    let t = length-tables (new_areas BLOCK (joined l.areas)) tables_start l.body_end inputs l.areas l.tables fits.areas fits.tables in
+    omega arith
+
+pub length-closing : (number : ℕ) → length (closing number) ≡ 17
+unfolding closing
+length-closing number =
+    let a = length-append (codes "\n") (delimiter number ++ codes "\n") in
+    let b = length-append (delimiter number) (codes "\n") in
+    let d = length-delimiter number in
+    omega arith
+
+length-script_for : (systems : Systems) (inputs : List Taken) (l : Positions) → length (script_for systems inputs l) ≤ 1006
+length-script_for systems inputs l =
+    length-script systems (header_for X64 inputs l.tables) (header_for A64 inputs l.tables) (header-is X64 inputs l.tables) (header-is A64 inputs l.tables)
+
+pub length-text : (systems : Systems) (inputs : List Taken) (l : Positions) → Fits inputs l → length (shell_text systems inputs l) ≤ 4591
+unfolding shell_text
+length-text systems inputs l fits =
+    let k = delimiter_number (body_of inputs l) in
+    let s = script_for systems inputs l in
+    let a = length-append (opening k) (body_of inputs l ++ (closing k ++ s)) in
+    let b = length-append (body_of inputs l) (closing k ++ s) in
+    let c = length-append (closing k) s in
+    let o = length-opening k in
+    let m = length-body inputs l fits in
+    let e = length-closing k in
+    let t = length-script_for systems inputs l in
+    let body = fits.body in
+    omega arith
+
+pub length-spaces : (n : ℕ) → length (spaces n) ≡ n
+unfolding spaces
+length-spaces n = length-replicate n 32
+
+-- what stands in the window
+abbrev pub window_text : Systems → List Taken → Positions → List ℕ
+window_text systems inputs l = shell_text systems inputs l ++ spaces (WINDOW - length (shell_text systems inputs l))
+
+pub length-window : (systems : Systems) (inputs : List Taken) (l : Positions) → Fits inputs l → length (window_text systems inputs l) ≡ WINDOW
+length-window systems inputs l fits =
+    let n : ℕ = length (shell_text systems inputs l) in
+    let a = length-append (shell_text systems inputs l) (spaces (WINDOW - n)) in
+    let s = length-spaces (WINDOW - n) in
+    let t = length-text systems inputs l fits in
+    omega arith
+
+pub block-parts : (systems : Systems) (inputs : List Taken) (l : Positions) (rest : List ℕ) → block_of systems inputs l ++ rest ≡ window_text systems inputs l ++ (zeros (BLOCK - WINDOW) ++ rest)
+unfolding block_of
+block-parts systems inputs l rest =
+    let text = shell_text systems inputs l in
+    let fill = spaces (WINDOW - length text) in
+    ap (λ r. r ++ rest) (sym (append_assoc text fill (zeros (BLOCK - WINDOW))))
+    ∙ append_assoc (text ++ fill) (zeros (BLOCK - WINDOW)) rest
+
+pub length-block : (systems : Systems) (inputs : List Taken) (l : Positions) → Fits inputs l → length (block_of systems inputs l) ≡ BLOCK
+unfolding block_of
+length-block systems inputs l fits =
+    let text = shell_text systems inputs l in
+    let n : ℕ = length text in
+    let a = length-append text (spaces (WINDOW - n) ++ zeros (BLOCK - WINDOW)) in
+    let b = length-append (spaces (WINDOW - n)) (zeros (BLOCK - WINDOW)) in
+    let s = length-spaces (WINDOW - n) in
+    let z = length-zeros (BLOCK - WINDOW) in
+    let x = length-text systems inputs l fits in
+    omega arith
+
+-- ---- the opening and the delimiter's line
+
+digit-bare : (x : ℕ) → (not (48 + x == 32) ≡ true) × (not (48 + x == 39) ≡ true)
+digit-bare x = (grind (arith, nat_tests), grind (arith, nat_tests))
+
+bare-digits : (n k : ℕ) → is_bare (digits_of n k) ≡ true
+bare-digits zero k = refl
+bare-digits (suc n) k =
+    let d = digit-bare (k % 10) in
+    bare-append (digits_of n (k / 10)) ((48 + k % 10) ∷ []) (bare-digits n (k / 10)) (rw (d.0, d.1) refl)
+
+bare-delimiter : (number : ℕ) → is_bare (delimiter number) ≡ true
+bare-delimiter number = bare-digits 8 number
+
+pub clear-opening : (number : ℕ) → is_clear 0 (opening number) ≡ true
+unfolding opening zeros
+clear-opening number = bare-clear 39 (delimiter number) (10 ∷ []) refl (bare-delimiter number) refl
+
+pub quiet-closing : (number : ℕ) → has_no_quote (closing number) ≡ true
+unfolding closing
+quiet-closing number = no_quote-append (delimiter number) (codes "\n") (bare-no_quote (delimiter number) (bare-delimiter number)) refl
+
+pub starts-closing : (number : ℕ) (behind : List ℕ) → get_or (closing number ++ behind) 0 0 ≡ 10
+unfolding closing
+starts-closing number behind = refl
+
+pub starts-body : (inputs : List Taken) (l : Positions) (behind : List ℕ) → get_or (body_of inputs l ++ behind) 0 0 ≡ 0
+unfolding body_of zeros
+starts-body inputs l behind = refl
+
+-- ---- the parts of a file that begins with the block
+
+-- what stands behind the body
+abbrev pub behind_body : Systems → List Taken → Positions → List ℕ
+behind_body systems inputs l =
+    closing (delimiter_number (body_of inputs l)) ++ (script_for systems inputs l ++ spaces (WINDOW - length (shell_text systems inputs l)))
+
+pub window-parts : (systems : Systems) (inputs : List Taken) (l : Positions) → window_text systems inputs l ≡ opening (delimiter_number (body_of inputs l)) ++ (body_of inputs l ++ behind_body systems inputs l)
+unfolding shell_text
+window-parts systems inputs l =
+    let k = delimiter_number (body_of inputs l) in
+    let body = body_of inputs l in
+    let s = script_for systems inputs l in
+    let fill = spaces (WINDOW - length (opening k ++ (body ++ (closing k ++ s)))) in
+    append_assoc (opening k) (body ++ (closing k ++ s)) fill
+    ∙ ap (λ r. opening k ++ r) (append_assoc body (closing k ++ s) fill ∙ ap (λ r. body ++ r) (append_assoc (closing k) s fill))
+
+-- the magic
+opening-magic : (number : ℕ) (rest : List ℕ) → has_magic (opening number ++ rest) ≡ true
+unfolding opening
+opening-magic number rest = refl
+
+opening-parts : (number : ℕ) (rest : List ℕ) → Holds (opening number ++ rest) 0 (codes "jartsr='")
+unfolding opening
+opening-parts number rest = holds-part [] (codes "jartsr='") (codes "\n" ++ ((zeros 55 ++ (codes "' <<'" ++ (delimiter number ++ codes "'\n"))) ++ rest)) 0 refl
+
+front-parts : (systems : Systems) (inputs : List Taken) (l : Positions) (rest : List ℕ)
+    → block_of systems inputs l ++ rest ≡ opening (delimiter_number (body_of inputs l)) ++ ((body_of inputs l ++ behind_body systems inputs l) ++ (zeros (BLOCK - WINDOW) ++ rest))
+front-parts systems inputs l rest =
+    block-parts systems inputs l rest
+    ∙ ap (λ r. r ++ (zeros (BLOCK - WINDOW) ++ rest)) (window-parts systems inputs l)
+    ∙ append_assoc (opening (delimiter_number (body_of inputs l))) (body_of inputs l ++ behind_body systems inputs l) (zeros (BLOCK - WINDOW) ++ rest)
+
+pub block-magic : (systems : Systems) (inputs : List Taken) (l : Positions) (rest : List ℕ) → has_magic (block_of systems inputs l ++ rest) ≡ true
+block-magic systems inputs l rest =
+    ap has_magic (front-parts systems inputs l rest)
+    ∙ opening-magic (delimiter_number (body_of inputs l)) ((body_of inputs l ++ behind_body systems inputs l) ++ (zeros (BLOCK - WINDOW) ++ rest))
+
+pub block-begins : (systems : Systems) (inputs : List Taken) (l : Positions) (rest : List ℕ) → Holds (block_of systems inputs l ++ rest) 0 (codes "jartsr='")
+block-begins systems inputs l rest =
+    subst (λ w. Holds w 0 (codes "jartsr='")) (sym (front-parts systems inputs l rest))
+    (opening-parts (delimiter_number (body_of inputs l)) ((body_of inputs l ++ behind_body systems inputs l) ++ (zeros (BLOCK - WINDOW) ++ rest)))
+
+-- the body
+pub block-body : (systems : Systems) (inputs : List Taken) (l : Positions) (rest : List ℕ) → Holds (block_of systems inputs l ++ rest) 86 (body_of inputs l)
+block-body systems inputs l rest =
+    let k = delimiter_number (body_of inputs l) in
+    let behind = behind_body systems inputs l in
+    let end = zeros (BLOCK - WINDOW) ++ rest in
+    let parts : block_of systems inputs l ++ rest ≡ opening k ++ (body_of inputs l ++ (behind ++ end)) =
+    front-parts systems inputs l rest ∙ ap (λ r. opening k ++ r) (append_assoc (body_of inputs l) behind end) in
+    subst (λ w. Holds w 86 (body_of inputs l)) (sym parts) (holds-part (opening k) (body_of inputs l) (behind ++ end) 86 (sym (length-opening k)))
+
+-- the tables
+tables-in : (inputs : List Taken) (l : Positions) (number : ℕ) (behind : List ℕ) → opening number ++ (body_of inputs l ++ behind) ≡ (opening number ++ zeros 10) ++ (tables_text inputs l.areas ++ behind)
+unfolding body_of
+tables-in inputs l number behind =
+    ap (λ r. opening number ++ r) (append_assoc (zeros 10) (tables_text inputs l.areas) behind)
+    ∙ sym (append_assoc (opening number) (zeros 10) (tables_text inputs l.areas ++ behind))
+
+pub block-tables : (systems : Systems) (inputs : List Taken) (l : Positions) (rest : List ℕ) → Fits inputs l → HoldsTables (block_of systems inputs l ++ rest) inputs l.areas l.tables
+block-tables systems inputs l rest fits =
+    let k = delimiter_number (body_of inputs l) in
+    let behind = behind_body systems inputs l in
+    let end = zeros (BLOCK - WINDOW) ++ rest in
+    let parts : block_of systems inputs l ++ rest ≡ (opening k ++ zeros 10) ++ (tables_text inputs l.areas ++ (behind ++ end)) =
+    front-parts systems inputs l rest ∙ ap (λ r. opening k ++ r) (append_assoc (body_of inputs l) behind end) ∙ tables-in inputs l k (behind ++ end) in
+    let a = length-append (opening k) (zeros 10) in
+    let o = length-opening k in
+    let z = length-zeros 10 in
+    subst (λ w. HoldsTables w inputs l.areas l.tables) (sym parts)
+    (holds-tables (new_areas BLOCK (joined l.areas)) tables_start l.body_end inputs l.areas l.tables (opening k ++ zeros 10) (behind ++ end) fits.areas fits.tables (omega arith))

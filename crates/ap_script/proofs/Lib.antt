@@ -1,0 +1,15 @@
+pub mod TableLengths
+pub mod TableZeros
+pub mod DelimiterWords
+pub mod Quotes
+pub mod Openings
+pub mod ScriptParts
+pub mod BlockParts
+pub mod StatementPlaces
+pub mod TakenStatements
+pub mod Words
+pub mod LeastNumbers
+pub mod Digits
+pub mod Entries
+pub mod Fitting
+pub mod Blocks

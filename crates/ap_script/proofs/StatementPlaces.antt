@@ -1,0 +1,278 @@
+-- `printf '` stands in the window of a linked file where the script has its statements, and nowhere else.
+use Rattle.std.proofs.Common.{◌≡◌, ◌⊎◌, inl, inr, ℕ, zero, suc, ◌+◌, ◌-◌, ◌≤◌, ◌<◌, List, [], ◌∷◌, ◌++◌, length, take, drop, get_or, Option, Some, None, refl, sym, ap, ◌∙◌, arith, length-append, append_assoc, subst}
+use Rattle.std.specs.Prelude.{codes, All, Contains, ◌↔◌, slice_range}
+use Rattle.std.proofs.Math.Seq.{drop-append_seam}
+use Rattle.std.proofs.lemmas.List.{get_or_append_left, get_or-append_right, take_all, take-append-le}
+use Rattle.ap_fields.specs.declared.sizes.TheConstants.{BLOCK, WINDOW}
+use Rattle.ap_fields.specs.Bytes.{zeros, Holds}
+use Rattle.ap_octal.specs.Embedded.{Opens, Closes, Embeds}
+use Rattle.ap_octal.specs.OctalText.{IsOctal}
+use Rattle.ap_octal.specs.Statement.{octals_of, statement_of}
+use Rattle.ap_octal.proofs.OctalLemmas.{octal-bytes}
+use Rattle.ap_check.specs.declared.options.Systems.{Systems}
+use Rattle.ap_check.specs.declared.machine.Machine.{Machine}
+use Rattle.ap_check.specs.declared.machine.Machine.TheVariants.{X64, A64}
+use Rattle.ap_check.specs.Inputs.{Taken, Meets}
+use Rattle.ap_layout.specs.Positions.{Positions, Fits}
+use Rattle.ap_script.specs.Script.{script_start, system_line, machine_start, machine_lines, script_of, header_for}
+use Rattle.ap_script.specs.Delimiter.{delimiter_number}
+use Rattle.ap_script.specs.Blocks.{opening, body_of, closing, script_for, shell_text, spaces, block_of}
+use Rattle.ap_script.specs.Stands.{machines_start, statement_place, place_if, statement_places}
+use Rattle.ap_script.proofs.Quotes.{has_no_quote-says, bare-no_quote, bare-octals, no_quote-spaces}
+use Rattle.ap_script.proofs.Openings.{word, holds-cut, not-in-zeros, apart-zero, apart-newline, parted, Marked, marked-append, marked-quiet, marked-clear, marked-holds, Parts, parts-behind, parts-front, parts-holds}
+use Rattle.ap_script.proofs.ScriptParts.{MarksLines, lines_from, marked-script, starts-script, parts-x64, parts-a64, IsHeader, length-statement}
+use Rattle.ap_script.proofs.TableZeros.{body-zeros}
+use Rattle.ap_script.proofs.BlockParts.{length-opening, length-body, length-closing, window_text, length-window, block-parts, window-parts, behind_body, clear-opening, quiet-closing, starts-closing, starts-body}
+
+-- ---- the list of places
+
+abbrev pub place_x64 : ℕ → ℕ
+place_x64 start = start + length (machine_start X64)
+
+abbrev pub place_a64 : Option (List ℕ) → ℕ → ℕ
+place_a64 x start = start + (length (machine_lines X64 x) + length (machine_start A64))
+
+abbrev pub places_by : Option (List ℕ) → Option (List ℕ) → ℕ → List ℕ
+places_by x y start = place_if x (place_x64 start) ++ place_if y (place_a64 x start)
+
+-- a blank's place is that of a statement's
+abbrev IsBlank : Option (List ℕ) → Option (List ℕ) → ℕ → ℕ → Type 0
+IsBlank x y start i = (k : ℕ) → k + 6 ≡ i → Contains (places_by x y start) k
+
+contains-first : (p k : ℕ) (places : List ℕ) → k ≡ p → Contains (p ∷ places) k
+contains-first p k places is = (0, omega arith, sym is)
+
+contains-second : (p q k : ℕ) → k ≡ q → Contains (p ∷ q ∷ []) k
+contains-second p q k is = (1, omega arith, sym is)
+
+marks-x64 : (x y : Option (List ℕ)) (start lines : ℕ) → lines ≡ start → MarksLines (IsBlank x y start) lines X64 x
+marks-x64 None y start lines same = tt
+marks-x64 (Some header) y start lines same = λ k is. contains-first (place_x64 start) k (place_if y (place_a64 (Some header) start)) (omega arith)
+
+marks-a64 : (x y : Option (List ℕ)) (start lines : ℕ) → lines ≡ start → MarksLines (IsBlank x y start) (lines + length (machine_lines X64 x)) A64 y
+marks-a64 x None start lines same = tt
+marks-a64 None (Some header) start lines same = λ k is. contains-first (place_a64 None start) k [] (omega arith)
+marks-a64 (Some first) (Some header) start lines same = λ k is. contains-second (place_x64 start) (place_a64 (Some first) start) k (omega arith)
+
+-- what is among them
+pub contained : (x y : Option (List ℕ)) (start k : ℕ) → Contains (places_by x y start) k
+    → ((h : List ℕ) × (x ≡ Some h) × (k ≡ place_x64 start)) ⊎ ((h : List ℕ) × (y ≡ Some h) × (k ≡ place_a64 x start))
+contained None None start k c = absurd (let low = c.1 in omega arith)
+contained (Some a) None start k (zero, low, is) = inl (a, refl, sym is)
+contained (Some a) None start k (suc i, low, is) = absurd (omega (arith, low))
+contained None (Some b) start k (zero, low, is) = inr (b, refl, sym is)
+contained None (Some b) start k (suc i, low, is) = absurd (omega (arith, low))
+contained (Some a) (Some b) start k (zero, low, is) = inl (a, refl, sym is)
+contained (Some a) (Some b) start k (suc zero, low, is) = inr (b, refl, sym is)
+contained (Some a) (Some b) start k (suc (suc i), low, is) = absurd (omega (arith, low))
+
+-- ---- nowhere else
+
+-- the parts of the window: the opening, the body, the delimiter's line with the script and the spaces behind it
+marked-behind : (systems : Systems) (inputs : List Taken) (l : Positions) → Fits inputs l
+    → Marked (IsBlank (header_for X64 inputs l.tables) (header_for A64 inputs l.tables) (machines_start systems l)) l.body_end (behind_body systems inputs l)
+marked-behind systems inputs l fits =
+    let x = header_for X64 inputs l.tables in
+    let y = header_for A64 inputs l.tables in
+    let start : ℕ = machines_start systems l in
+    let number = delimiter_number (body_of inputs l) in
+    let line = length-closing number in
+    let fill = spaces (WINDOW - length (shell_text systems inputs l)) in
+    let at : ℕ = l.body_end + length (closing number) in
+    let same : lines_from systems at ≡ start = omega arith in
+    marked-append (IsBlank x y start) l.body_end (closing number) (script_of systems x y ++ fill)
+    (marked-quiet (IsBlank x y start) l.body_end (closing number) (quiet-closing number))
+    (marked-script (IsBlank x y start) at systems x y fill (no_quote-spaces (WINDOW - length (shell_text systems inputs l)))
+    (marks-x64 x y start (lines_from systems at) same) (marks-a64 x y start (lines_from systems at) same))
+    (starts-script systems x y fill)
+
+none-opening : (number k : ℕ) → Holds (opening number) k word → ⊥
+none-opening number k h = marked-holds (λ i. ⊥) 0 (opening number) k (marked-clear (λ i. ⊥) 0 (opening number) (clear-opening number)) h
+
+holds-places : (systems : Systems) (inputs : List Taken) (l : Positions) (k : ℕ) → All Meets inputs → Fits inputs l → Holds (window_text systems inputs l) k word → Contains (statement_places systems inputs l) k
+holds-places systems inputs l k meets fits h =
+    let number = delimiter_number (body_of inputs l) in
+    let body = body_of inputs l in
+    let behind = behind_body systems inputs l in
+    let o = length-opening number in
+    let b = length-body inputs l fits in
+    let split : Holds (opening number ++ (body ++ behind)) k word = subst (λ w. Holds w k word) (window-parts systems inputs l) h in
+    elim (parted (opening number) (body ++ behind) k (apart-zero (body ++ behind) (starts-body inputs l behind)) split) [
+      | inl front ↦ absurd (none-opening number k front)
+      | inr (past, later) ↦ elim (parted body behind (k - length (opening number)) (apart-newline behind (starts-closing number (script_for systems inputs l ++ spaces (WINDOW - length (shell_text systems inputs l))))) later) [
+        | inl inside ↦ absurd (not-in-zeros body (k - length (opening number)) (body-zeros inputs l meets fits) inside)
+        | inr (beyond, last) ↦
+            (let i : ℕ = k - length (opening number) - length body in
+            marked-holds (IsBlank (header_for X64 inputs l.tables) (header_for A64 inputs l.tables) (machines_start systems l)) l.body_end behind i
+            (marked-behind systems inputs l fits) last k (omega arith))
+      ]
+    ]
+
+pub opens-places : (systems : Systems) (inputs : List Taken) (l : Positions) (rest : List ℕ) (k : ℕ) → All Meets inputs → Fits inputs l → Opens (block_of systems inputs l ++ rest) k → Contains (statement_places systems inputs l) k
+opens-places systems inputs l rest k meets fits o =
+    let long = length-window systems inputs l fits in
+    let within = o.within in
+    holds-places systems inputs l k meets fits
+    (holds-cut (window_text systems inputs l) (zeros (BLOCK - WINDOW) ++ rest) k (omega arith) (subst (λ w. Holds w k word) (block-parts systems inputs l rest) o.stands))
+
+-- ---- there
+
+script-x64 : (systems : Systems) (x y : Option (List ℕ)) (header : List ℕ) → x ≡ Some header → Parts (script_of systems x y) (length script_start + (length (system_line systems) + length (machine_start X64))) header
+script-x64 systems x y header is =
+    subst (λ o. Parts (script_of systems o y) (length script_start + (length (system_line systems) + length (machine_start X64))) header) (sym is) (parts-x64 systems header y)
+
+script-a64 : (systems : Systems) (x y : Option (List ℕ)) (header : List ℕ) → y ≡ Some header
+    → Parts (script_of systems x y) (length script_start + (length (system_line systems) + (length (machine_lines X64 x) + length (machine_start A64)))) header
+script-a64 systems x y header is =
+    subst (λ o. Parts (script_of systems x o) (length script_start + (length (system_line systems) + (length (machine_lines X64 x) + length (machine_start A64)))) header) (sym is) (parts-a64 systems x header)
+
+parts-script : (systems : Systems) (inputs : List Taken) (l : Positions) (place : ℕ) (header : List ℕ) → Fits inputs l → Parts (script_for systems inputs l) place header
+    → Parts (window_text systems inputs l) (l.body_end + (17 + place)) header
+parts-script systems inputs l place header fits p =
+    let number = delimiter_number (body_of inputs l) in
+    let body = body_of inputs l in
+    let script = script_for systems inputs l in
+    let fill = spaces (WINDOW - length (shell_text systems inputs l)) in
+    let o = length-opening number in
+    let b = length-body inputs l fits in
+    let c = length-closing number in
+    let where_is : length (opening number) + (length body + (length (closing number) + place)) ≡ l.body_end + (17 + place) = omega arith in
+    subst (λ w. Parts w (l.body_end + (17 + place)) header) (sym (window-parts systems inputs l))
+    (subst (λ n. Parts (opening number ++ (body ++ (closing number ++ (script ++ fill)))) n header) where_is
+    (parts-behind (opening number) (body ++ (closing number ++ (script ++ fill))) (length body + (length (closing number) + place)) header
+    (parts-behind body (closing number ++ (script ++ fill)) (length (closing number) + place) header
+    (parts-behind (closing number) (script ++ fill) place header (parts-front script fill place header p)))))
+
+pub parts-window : (systems : Systems) (inputs : List Taken) (l : Positions) (m : Machine) (header : List ℕ) → Fits inputs l → header_for m inputs l.tables ≡ Some header
+    → Parts (window_text systems inputs l) (statement_place systems inputs l m) header
+parts-window systems inputs l X64 header fits is =
+    let place : ℕ = length script_start + (length (system_line systems) + length (machine_start X64)) in
+    let same : l.body_end + (17 + place) ≡ statement_place systems inputs l X64 = omega arith in
+    subst (λ n. Parts (window_text systems inputs l) n header) same
+    (parts-script systems inputs l place header fits (script-x64 systems (header_for X64 inputs l.tables) (header_for A64 inputs l.tables) header is))
+parts-window systems inputs l A64 header fits is =
+    let place : ℕ = length script_start + (length (system_line systems) + (length (machine_lines X64 (header_for X64 inputs l.tables)) + length (machine_start A64))) in
+    let same : l.body_end + (17 + place) ≡ statement_place systems inputs l A64 = omega arith in
+    subst (λ n. Parts (window_text systems inputs l) n header) same
+    (parts-script systems inputs l place header fits (script-a64 systems (header_for X64 inputs l.tables) (header_for A64 inputs l.tables) header is))
+
+pub parts-block : (systems : Systems) (inputs : List Taken) (l : Positions) (rest : List ℕ) (m : Machine) (header : List ℕ) → Fits inputs l → header_for m inputs l.tables ≡ Some header
+    → Parts (block_of systems inputs l ++ rest) (statement_place systems inputs l m) header
+parts-block systems inputs l rest m header fits is =
+    subst (λ w. Parts w (statement_place systems inputs l m) header) (sym (block-parts systems inputs l rest))
+    (parts-front (window_text systems inputs l) (zeros (BLOCK - WINDOW) ++ rest) (statement_place systems inputs l m) header (parts-window systems inputs l m header fits is))
+
+-- it ends in the window
+pub place-within : (systems : Systems) (inputs : List Taken) (l : Positions) (m : Machine) (header : List ℕ) → Fits inputs l → header_for m inputs l.tables ≡ Some header
+    → statement_place systems inputs l m + length (statement_of header) ≤ WINDOW
+place-within systems inputs l m header fits is =
+    let p = parts-window systems inputs l m header fits is in
+    let long = length-window systems inputs l fits in
+    let whole = ap length p.whole in
+    let a = length-append p.front (statement_of header ++ p.behind) in
+    let b = length-append (statement_of header) p.behind in
+    let front = p.long in
+    omega arith
+
+-- ---- a statement in a file
+
+pub opens-parts : (file : List ℕ) (place : ℕ) (header : List ℕ) → Parts file place header → place + length (statement_of header) ≤ WINDOW → Opens file place
+unfolding statement_of
+opens-parts file place header p within =
+    let rest = octals_of header ++ codes "'" in
+    let whole = parts-holds file place header p in
+    let long = length-append (codes "printf '") rest in
+    record {
+      stands = record {
+        fits = (let f = whole.fits in omega arith);
+        same = λ k low. whole.same k (omega arith) ∙ get_or_append_left (codes "printf '") rest 0 k low;
+      };
+      within = omega arith;
+    }
+
+-- a byte behind the first quote
+in-octals : (file : List ℕ) (place : ℕ) (header : List ℕ) (i : ℕ) → Parts file place header → i < 1 + length (octals_of header) → get_or file (place + 8 + i) 0 ≡ get_or (octals_of header ++ codes "'") i 0
+unfolding statement_of
+in-octals file place header i p low =
+    let rest = octals_of header ++ codes "'" in
+    let whole = parts-holds file place header p in
+    let a = length-append (codes "printf '") rest in
+    let b = length-append (octals_of header) (codes "'") in
+    let there : place + 8 + i ≡ place + (8 + i) = omega arith in
+    let back : 8 + i - 8 ≡ i = omega arith in
+    ap (λ n. get_or file n 0) there
+    ∙ whole.same (8 + i) (omega arith)
+    ∙ get_or-append_right (codes "printf '") rest 8 (8 + i) 0 refl (omega arith)
+    ∙ ap (λ n. get_or rest n 0) back
+
+range-part : (front part behind : List ℕ) (a b : ℕ) → length front ≡ a → a + length part ≡ b → slice_range (front ++ (part ++ behind)) a b ≡ part
+range-part front part behind a b long is =
+    let whole = front ++ (part ++ behind) in
+    let size : b - length front ≡ length part = omega arith in
+    ap (λ n. take (b - n) (drop n whole)) (sym long)
+    ∙ ap (take (b - length front)) (drop-append_seam front (part ++ behind))
+    ∙ ap (λ n. take n (part ++ behind)) size
+    ∙ take-append-le (length part) part behind (omega arith)
+    ∙ take_all (length part) part (omega arith)
+
+octal-parts : (file : List ℕ) (place : ℕ) (header : List ℕ) (p : Parts file place header) → file ≡ (p.front ++ codes "printf '") ++ (octals_of header ++ (codes "'" ++ p.behind))
+unfolding statement_of
+octal-parts file place header p =
+    p.whole
+    ∙ ap (λ r. p.front ++ r) (append_assoc (codes "printf '") (octals_of header ++ codes "'") p.behind ∙ ap (λ r. codes "printf '" ++ r) (append_assoc (octals_of header) (codes "'") p.behind))
+    ∙ sym (append_assoc p.front (codes "printf '") (octals_of header ++ (codes "'" ++ p.behind)))
+
+range-there : (file : List ℕ) (place : ℕ) (header : List ℕ) → Parts file place header → slice_range file (place + 8) (place + 8 + length (octals_of header)) ≡ octals_of header
+range-there file place header p =
+    let a = length-append p.front (codes "printf '") in
+    let l = p.long in
+    ap (λ (w : List ℕ). slice_range w (place + 8) (place + 8 + length (octals_of header))) (octal-parts file place header p)
+    ∙ range-part (p.front ++ codes "printf '") (octals_of header) (codes "'" ++ p.behind) (place + 8) (place + 8 + length (octals_of header)) (omega arith) refl
+
+closes-there : (file : List ℕ) (place : ℕ) (header : List ℕ) → Parts file place header → place + length (statement_of header) ≤ WINDOW → Closes file (place + 8) (place + 8 + length (octals_of header))
+closes-there file place header p within =
+    let octals = octals_of header in
+    let n : ℕ = length octals in
+    let long = length-statement header in
+    let fits = (parts-holds file place header p).fits in
+    let none : n - n ≡ 0 = omega arith in
+    record {
+      behind = omega arith;
+      fits = omega arith;
+      within = omega arith;
+      quote = in-octals file place header n p (omega arith) ∙ get_or-append_right octals (codes "'") n n 0 refl (omega arith) ∙ ap (λ i. get_or (codes "'") i 0) none;
+      first = λ k low below e.
+          let i : ℕ = k - (place + 8) in
+          let at : place + 8 + i ≡ k = omega arith in
+          let inside : i < n = omega arith in
+          has_no_quote-says octals i (bare-no_quote octals (bare-octals header))
+          (sym (get_or_append_left octals (codes "'") 0 i inside) ∙ sym (in-octals file place header i p (omega arith)) ∙ ap (λ j. get_or file j 0) at ∙ e);
+    }
+
+pub embeds-parts : (file : List ℕ) (place : ℕ) (m : Machine) (header : List ℕ) → Parts file place header → place + length (statement_of header) ≤ WINDOW → IsHeader m header
+    → Embeds file place (place + 8 + length (octals_of header)) header
+embeds-parts file place m header p within is =
+    let long = is.long in
+    record {
+      closes = closes-there file place header p within;
+      octal = subst (λ t. IsOctal t header) (sym (range-there file place header p)) (octal-bytes header is.bytes);
+      enough = omega arith;
+    }
+
+-- ---- exactly there
+
+pub opens-block : (systems : Systems) (inputs : List Taken) (l : Positions) (rest : List ℕ) (m : Machine) (header : List ℕ) → Fits inputs l → header_for m inputs l.tables ≡ Some header
+    → Opens (block_of systems inputs l ++ rest) (statement_place systems inputs l m)
+opens-block systems inputs l rest m header fits is =
+    opens-parts (block_of systems inputs l ++ rest) (statement_place systems inputs l m) header (parts-block systems inputs l rest m header fits is) (place-within systems inputs l m header fits is)
+
+places-open : (systems : Systems) (inputs : List Taken) (l : Positions) (rest : List ℕ) (k : ℕ) → Fits inputs l → Contains (statement_places systems inputs l) k → Opens (block_of systems inputs l ++ rest) k
+places-open systems inputs l rest k fits c =
+    elim (contained (header_for X64 inputs l.tables) (header_for A64 inputs l.tables) (machines_start systems l) k c) [
+      | inl (header, is, at) ↦ subst (Opens (block_of systems inputs l ++ rest)) (sym at) (opens-block systems inputs l rest X64 header fits is)
+      | inr (header, is, at) ↦ subst (Opens (block_of systems inputs l ++ rest)) (sym at) (opens-block systems inputs l rest A64 header fits is)
+    ]
+
+pub opens-only : (systems : Systems) (inputs : List Taken) (l : Positions) (rest : List ℕ) (k : ℕ) → All Meets inputs → Fits inputs l
+    → Opens (block_of systems inputs l ++ rest) k ↔ Contains (statement_places systems inputs l) k
+opens-only systems inputs l rest k meets fits = (opens-places systems inputs l rest k meets fits, places-open systems inputs l rest k fits)

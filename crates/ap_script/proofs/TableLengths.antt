@@ -1,0 +1,97 @@
+-- How long program header tables are, and where they stand.
+use Rattle.std.proofs.Common.{◌≡◌, ℕ, suc, ◌+◌, ◌*◌, List, [], ◌∷◌, ◌++◌, length, map, refl, sym, ap, ◌∙◌, arith, length-append, append_assoc, subst, Option, Some, None}
+use Rattle.std.specs.List.{flat_map}
+use Rattle.std.proofs.lemmas.List.{length-map}
+use Rattle.ap_fields.specs.Fields.{bytes_of}
+use Rattle.ap_fields.specs.Bytes.{Holds}
+use Rattle.ap_fields.proofs.Bytes.{holds-part}
+use Rattle.ap_elf.specs.declared.types.Entry.{Entry}
+use Rattle.ap_elf.specs.Written.{entry_bytes, table_bytes}
+use Rattle.ap_check.specs.declared.load.Load.{Load}
+use Rattle.ap_check.specs.Machines.{granule_of}
+use Rattle.ap_check.specs.Inputs.{Taken}
+use Rattle.ap_layout.specs.declared.layout.Area.{Area}
+use Rattle.ap_layout.specs.Areas.{ServeAll}
+use Rattle.ap_layout.specs.Positions.{one_if, entry_count, table_length, FitAll, AreTables}
+use Rattle.ap_script.specs.Tables.{load_entries, stack_entries, note_entry, tls_entries, table_of, table_text}
+use Rattle.ap_script.specs.Blocks.{tables_text}
+use Rattle.ap_script.specs.Stands.{HoldsTables}
+
+pub length-entry_bytes : (p : Entry) → length (entry_bytes p) ≡ 56
+unfolding entry_bytes bytes_of
+length-entry_bytes p = refl
+
+pub length-table_bytes : (entries : List Entry) → length (table_bytes entries) ≡ 56 * length entries
+unfolding table_bytes
+length-table_bytes [] = refl
+length-table_bytes (p ∷ entries) =
+    let a = length-append (entry_bytes p) (flat_map entry_bytes entries) in
+    let here = length-entry_bytes p in
+    let rest = length-table_bytes entries in
+    omega arith
+
+length-loads : (g : ℕ) (news : List Area) (loads : List Load) (areas : List Area) → ServeAll g news loads areas → length (load_entries g loads areas) ≡ length loads
+length-loads g news [] [] h = refl
+length-loads g news [] (a ∷ areas) h = absurd h
+length-loads g news (p ∷ loads) [] h = absurd h
+length-loads g news (p ∷ loads) (a ∷ areas) h = ap suc (length-loads g news loads areas h.1)
+
+length-stack : (stack : Option Entry) → length (stack_entries stack) ≡ one_if stack
+length-stack None = refl
+length-stack (Some p) = refl
+
+length-tls : (g : ℕ) (loads : List Load) (areas : List Area) (tls : Option Entry) → length (tls_entries g loads areas tls) ≡ one_if tls
+length-tls g loads areas None = refl
+length-tls g loads areas (Some p) = refl
+
+pub length-table_of : (news : List Area) (e : Taken) (areas : List Area) → ServeAll (granule_of e.machine) news e.loads areas → length (table_of e areas) ≡ entry_count e
+unfolding table_of
+length-table_of news e areas h =
+    let g = granule_of e.machine in
+    let loads = load_entries g e.loads areas in
+    let stack = stack_entries e.stack in
+    let notes = map (note_entry g e.loads areas) e.notes in
+    let tls = tls_entries g e.loads areas e.tls in
+    let a = length-append loads (stack ++ (notes ++ tls)) in
+    let b = length-append stack (notes ++ tls) in
+    let c = length-append notes tls in
+    let l = length-loads g news e.loads areas h in
+    let s = length-stack e.stack in
+    let n = length-map e.notes (note_entry g e.loads areas) in
+    let t = length-tls g e.loads areas e.tls in
+    omega arith
+
+pub length-table_text : (news : List Area) (e : Taken) (areas : List Area) → ServeAll (granule_of e.machine) news e.loads areas → length (table_text e areas) ≡ table_length e
+length-table_text news e areas h = length-table_bytes (table_of e areas) ∙ ap (λ n. 56 * n) (length-table_of news e areas h)
+
+-- the tables end where their last one does
+pub length-tables : (news : List Area) (at end : ℕ) (inputs : List Taken) (more : List (List Area)) (tables : List ℕ) → FitAll news inputs more → AreTables at inputs tables end
+    → at + length (tables_text inputs more) ≡ end
+length-tables news at end [] more [] fits are = (let e : end ≡ at = are in omega arith)
+length-tables news at end [] more (t ∷ tables) fits are = absurd are
+length-tables news at end (e ∷ inputs) [] tables fits are = absurd fits
+length-tables news at end (e ∷ inputs) (areas ∷ more) [] fits are = absurd are
+length-tables news at end (e ∷ inputs) (areas ∷ more) (t ∷ tables) fits are =
+    let here = length-table_text news e areas fits.0 in
+    let rest = length-tables news (at + table_length e) end inputs more tables fits.1 are.1 in
+    let a = length-append (table_text e areas) (tables_text inputs more) in
+    omega arith
+
+-- each stands behind those before it
+pub holds-tables : (news : List Area) (at end : ℕ) (inputs : List Taken) (more : List (List Area)) (tables front behind : List ℕ) → FitAll news inputs more → AreTables at inputs tables end
+    → length front ≡ at → HoldsTables (front ++ (tables_text inputs more ++ behind)) inputs more tables
+holds-tables news at end [] more tables front behind fits are long = tt
+holds-tables news at end (e ∷ inputs) [] tables front behind fits are long = absurd fits
+holds-tables news at end (e ∷ inputs) (areas ∷ more) [] front behind fits are long = absurd are
+holds-tables news at end (e ∷ inputs) (areas ∷ more) (t ∷ tables) front behind fits are long =
+    let here = table_text e areas in
+    let rest = tables_text inputs more in
+    let there : t ≡ length front = are.0 ∙ sym long in
+    let size = length-table_text news e areas fits.0 in
+    let joined = length-append front here in
+    let one : front ++ ((here ++ rest) ++ behind) ≡ front ++ (here ++ (rest ++ behind)) = ap (λ r. front ++ r) (append_assoc here rest behind) in
+    let two : (front ++ here) ++ (rest ++ behind) ≡ front ++ ((here ++ rest) ++ behind) = append_assoc front here (rest ++ behind) ∙ sym one in (
+      subst (λ w. Holds w t here) (sym one) (holds-part front here (rest ++ behind) t there),
+      subst (λ w. HoldsTables w inputs more tables) two
+          (holds-tables news (at + table_length e) end inputs more tables (front ++ here) behind fits.1 are.1 (omega arith)),
+    )

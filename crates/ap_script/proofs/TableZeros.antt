@@ -1,0 +1,313 @@
+-- Each eighth byte of a program header table is zero.
+use Rattle.std.proofs.Common.{◌≡◌, ◌⊎◌, inl, inr, ℕ, zero, suc, ◌+◌, ◌*◌, ◌-◌, ◌/◌, ◌%◌, ◌^◌, ◌≤◌, ◌<◌, ◌==◌, ◌&&◌, ◌||◌, not, cond, Bool, true, false, List, [], ◌∷◌, ◌++◌, length, map, get_or, refl, ap, ◌∙◌, arith, Option, Some, None, nat_le, nat_lt}
+use Rattle.std.specs.Prelude.{All, IfSome, bit_and}
+use Rattle.std.specs.Int.{byte_at}
+use Rattle.std.specs.List.{flat_map}
+use Rattle.std.proofs.lemmas.Bool.{cases_lt}
+use Rattle.std.proofs.lemmas.Bool.Decides.{nat_tests}
+use Rattle.std.proofs.lemmas.Nat.{and_mask}
+use Rattle.std.proofs.lemmas.List.{get_or_append_left, get_or-append_right, get_or_past}
+use Rattle.ap_fields.specs.Fields.{bytes_of}
+use Rattle.ap_fields.specs.Bytes.{zeros}
+use Rattle.ap_fields.specs.Granules.{floor_of, ceil_of}
+use Rattle.ap_fields.specs.declared.sizes.TheConstants.{BLOCK}
+use Rattle.ap_fields.proofs.Bytes.{length-zeros, get_or-zeros}
+use Rattle.ap_elf.specs.declared.types.Entry.{Entry}
+use Rattle.ap_elf.specs.Written.{entry_bytes, table_bytes}
+use Rattle.ap_check.specs.declared.machine.Machine.{Machine}
+use Rattle.ap_check.specs.declared.machine.Machine.TheVariants.{X64, A64}
+use Rattle.ap_check.specs.declared.load.Load.{Load}
+use Rattle.ap_check.specs.Machines.{granule_of}
+use Rattle.ap_check.specs.Inputs.{Taken, IsLoad, AreLoads, IsTls, Meets, has_part, in_part, is_note}
+use Rattle.ap_layout.specs.declared.layout.Area.{Area}
+use Rattle.ap_layout.specs.Areas.{end_of, after, end_from, is_new, new_areas, Among, Serves, ServeAll}
+use Rattle.ap_layout.specs.Positions.{Positions, Fits, FitAll, joined, entry_count}
+use Rattle.ap_script.specs.Tables.{load_entry, load_entries, stack_entries, is_backed, place_of, note_entry, tls_entries, table_of, table_text}
+use Rattle.ap_script.specs.Blocks.{tables_text, body_of}
+use Rattle.ap_script.specs.Stands.{HasZeros}
+use Rattle.ap_script.proofs.TableLengths.{length-entry_bytes, length-table_text}
+
+-- ---- texts whose eighth bytes are zero
+
+abbrev pub Eighths : List ℕ → Type 0
+Eighths text = (i : ℕ) → get_or text (8 * i + 7) 0 ≡ 0
+
+eighths-append : (n : ℕ) (xs ys : List ℕ) → length xs ≡ 8 * n → Eighths xs → Eighths ys → Eighths (xs ++ ys)
+eighths-append n xs ys long x y i =
+    elim (cases_lt i n) [
+      | inl low ↦ get_or_append_left xs ys 0 (8 * i + 7) (omega arith) ∙ x i
+      | inr high ↦
+          (let back : 8 * i + 7 - 8 * n ≡ 8 * (i - n) + 7 = omega arith in
+          get_or-append_right xs ys (8 * n) (8 * i + 7) 0 long (omega arith)
+          ∙ ap (λ k. get_or ys k 0) back ∙ y (i - n))
+    ]
+
+-- ---- entries whose fields leave their last byte zero
+
+pub record IsShort (p : Entry) : Type 0 where
+  pub flags : p.flags < 256 ^ 3
+  pub offset : p.offset < 256 ^ 7
+  pub vaddr : p.vaddr < 256 ^ 7
+  pub paddr : p.paddr < 256 ^ 7
+  pub filesz : p.filesz < 256 ^ 7
+  pub memsz : p.memsz < 256 ^ 7
+  pub align : p.align < 256 ^ 7
+
+zero-last : (p : Entry) (i : ℕ) → IsShort p → i < 7 → get_or (entry_bytes p) (8 * i + 7) 0 ≡ 0
+unfolding entry_bytes bytes_of
+zero-last p zero fits h = let f = fits.flags in let z : byte_at 3 p.flags ≡ 0 = omega arith in z
+zero-last p (suc zero) fits h = let f = fits.offset in let z : byte_at 7 p.offset ≡ 0 = omega arith in z
+zero-last p (suc (suc zero)) fits h = let f = fits.vaddr in let z : byte_at 7 p.vaddr ≡ 0 = omega arith in z
+zero-last p (suc (suc (suc zero))) fits h = let f = fits.paddr in let z : byte_at 7 p.paddr ≡ 0 = omega arith in z
+zero-last p (suc (suc (suc (suc zero)))) fits h = let f = fits.filesz in let z : byte_at 7 p.filesz ≡ 0 = omega arith in z
+zero-last p (suc (suc (suc (suc (suc zero))))) fits h = let f = fits.memsz in let z : byte_at 7 p.memsz ≡ 0 = omega arith in z
+zero-last p (suc (suc (suc (suc (suc (suc zero)))))) fits h = let f = fits.align in let z : byte_at 7 p.align ≡ 0 = omega arith in z
+zero-last p (suc (suc (suc (suc (suc (suc (suc i))))))) fits h = absurd (omega (arith, h))
+
+eighths-entry : (p : Entry) → IsShort p → Eighths (entry_bytes p)
+eighths-entry p fits i =
+    elim (cases_lt i 7) [
+      | inl low ↦ zero-last p i fits low
+      | inr high ↦ (let long = length-entry_bytes p in get_or_past (entry_bytes p) (8 * i + 7) 0 (omega arith))
+    ]
+
+abbrev pub AreShort : List Entry → Type 0
+AreShort [] = Unit {0}
+AreShort (p ∷ entries) = IsShort p × AreShort entries
+
+short-append : (xs ys : List Entry) → AreShort xs → AreShort ys → AreShort (xs ++ ys)
+short-append [] ys x y = y
+short-append (p ∷ xs) ys x y = (x.0, short-append xs ys x.1 y)
+
+eighths-table : (entries : List Entry) → AreShort entries → Eighths (table_bytes entries)
+unfolding table_bytes
+eighths-table [] h = λ i. refl
+eighths-table (p ∷ entries) h = eighths-append 7 (entry_bytes p) (flat_map entry_bytes entries) (length-entry_bytes p) (eighths-entry p h.0) (eighths-table entries h.1)
+
+-- ---- areas that start below 2^31
+
+abbrev pub AreLow : List Area → Type 0
+AreLow [] = Unit {0}
+AreLow (a ∷ areas) = (a.file < 2 ^ 31) × AreLow areas
+
+abbrev pub NewsLow : List Area → Type 0
+NewsLow news = (a : Area) → Among a news → a.file < 2 ^ 31
+
+zero_or : (n : ℕ) → (n ≡ 0) ⊎ (0 < n)
+zero_or zero = inl refl
+zero_or (suc n) = inr (omega arith)
+
+low-area : (g : ℕ) (news : List Area) (p : Load) (a : Area) → NewsLow news → Serves g news p a → a.file < 2 ^ 31
+low-area g news p a low s =
+    elim (zero_or p.filesz) [
+      | inl none ↦ (let e : a.file ≡ 0 = ap (λ (x : Area). x.file) (s.bare none) in omega arith)
+      | inr some ↦ low a (s.new some)
+    ]
+
+low-areas : (g : ℕ) (news : List Area) (loads : List Load) (areas : List Area) → NewsLow news → ServeAll g news loads areas → AreLow areas
+low-areas g news [] [] low s = tt
+low-areas g news [] (a ∷ areas) low s = absurd s
+low-areas g news (p ∷ loads) [] low s = absurd s
+low-areas g news (p ∷ loads) (a ∷ areas) low s = (low-area g news p a low s.0, low-areas g news loads areas low s.1)
+
+among-by : (t : Bool) (a b : Area) (newer others areas : List Area) → (Among a newer → Among a areas) → (Among a others → Among a areas) → Among a (cond t (b ∷ newer) others) → Among a (b ∷ areas)
+among-by true a b newer others areas one other (inl is) = inl is
+among-by true a b newer others areas one other (inr later) = inr (one later)
+among-by false a b newer others areas one other later = inr (other later)
+
+among-new : (c : ℕ) (areas : List Area) (a : Area) → Among a (new_areas c areas) → Among a areas
+among-new c [] a h = h
+among-new c (b ∷ areas) a h =
+    among-by (is_new c b) a b (new_areas (end_of b) areas) (new_areas c areas) areas (among-new (end_of b) areas a) (among-new c areas a) h
+
+cursor-grows : (c : ℕ) (areas : List Area) → c ≤ end_from c areas
+cursor-grows c [] = omega arith
+cursor-grows c (a ∷ areas) = let h = cursor-grows (after c a) areas in omega arith
+
+among-end : (c : ℕ) (areas : List Area) (a : Area) → Among a areas → end_of a ≤ end_from c areas
+among-end c [] a h = absurd h
+among-end c (b ∷ areas) a (inl is) =
+    let h = cursor-grows (after c b) areas in
+    let e : end_of a ≡ end_of b = ap end_of is in
+    omega arith
+among-end c (b ∷ areas) a (inr later) = among-end (after c b) areas a later
+
+pub news-low : (inputs : List Taken) (l : Positions) → Fits inputs l → NewsLow (new_areas BLOCK (joined l.areas))
+news-low inputs l f a h =
+    let end = among-end BLOCK (joined l.areas) a (among-new BLOCK (joined l.areas) a h) in
+    let total = f.total in
+    let small = f.small in
+    omega arith
+
+-- ---- the numbers of a table
+
+split_and : (a b : Bool) → (a && b) ≡ true → (a ≡ true) × (b ≡ true)
+split_and true b h = (refl, h)
+split_and false b h = absurd (cc)
+
+split_or : (a b : Bool) → (a || b) ≡ true → (a ≡ true) ⊎ (b ≡ true)
+split_or true b h = inl refl
+split_or false b h = inr h
+
+low-part : (m : Machine) (v : ℕ) → v % granule_of m < 16384
+low-part X64 v = omega arith
+low-part A64 v = omega arith
+
+granule-low : (m : Machine) → granule_of m ≤ 16384
+granule-low X64 = omega arith
+granule-low A64 = omega arith
+
+has_part-top : (g size low a count : ℕ) (p : Load) → IsLoad g size low p → has_part a count p ≡ true → a + count ≤ 2 ^ 47
+has_part-top g size low a count p is h =
+    let both = split_and (nat_le p.vaddr a) (nat_le (a + count) (p.vaddr + p.filesz)) h in
+    let below : a + count ≤ p.vaddr + p.filesz = grind (arith, nat_tests, both.1) in
+    let sizes = is.sizes in
+    let top = is.top in
+    omega arith
+
+in_part-top : (g size low a count : ℕ) (loads : List Load) → AreLoads g size low loads → in_part a count loads ≡ true → a + count ≤ 2 ^ 47
+in_part-top g size low a count [] are h = absurd (cc)
+in_part-top g size low a count (p ∷ loads) are h =
+    elim (split_or (has_part a count p) (in_part a count loads) h) [
+      | inl here ↦ has_part-top g size low a count p are.0 here
+      | inr later ↦ in_part-top g size (ceil_of (p.vaddr + p.memsz) g) a count loads are.1 later
+    ]
+
+place-here : (g size low a : ℕ) (p : Load) (x : Area) → IsLoad g size low p → x.file < 2 ^ 31 → is_backed p a ≡ true → x.file + (a - floor_of p.vaddr g) < 256 ^ 7
+place-here g size low a p x is file backed =
+    let below : a < p.vaddr + p.filesz = grind (arith, nat_tests, (split_and (nat_le p.vaddr a) (nat_lt a (p.vaddr + p.filesz)) backed).1) in
+    let sizes = is.sizes in
+    let top = is.top in
+    omega arith
+
+short-by : (t : Bool) (x y : ℕ) → (t ≡ true → x < 256 ^ 7) → y < 256 ^ 7 → cond t x y < 256 ^ 7
+short-by true x y one other = one refl
+short-by false x y one other = other
+
+place-short : (g size low a : ℕ) (loads : List Load) (areas : List Area) → AreLoads g size low loads → AreLow areas → place_of g loads areas a < 256 ^ 7
+place-short g size low a [] areas are lows = omega arith
+place-short g size low a (p ∷ loads) [] are lows = omega arith
+place-short g size low a (p ∷ loads) (x ∷ areas) are lows =
+    short-by (is_backed p a) (x.file + (a - floor_of p.vaddr g)) (place_of g loads areas a) (place-here g size low a p x are.0 lows.0)
+    (place-short g size (ceil_of (p.vaddr + p.memsz) g) a loads areas are.1 lows.1)
+
+short-load : (m : Machine) (size low : ℕ) (p : Load) (x : Area) → IsLoad (granule_of m) size low p → x.file < 2 ^ 31 → IsShort (load_entry (granule_of m) p x)
+short-load m size low p x is file =
+    let part = low-part m p.vaddr in
+    let granule = granule-low m in
+    let perms = is.perms in
+    let sizes = is.sizes in
+    let top = is.top in
+    record {
+      flags = omega arith;
+      offset = omega arith;
+      vaddr = omega arith;
+      paddr = omega arith;
+      filesz = omega arith;
+      memsz = omega arith;
+      align = omega arith;
+    }
+
+short-loads : (m : Machine) (size low : ℕ) (loads : List Load) (areas : List Area) → AreLoads (granule_of m) size low loads → AreLow areas → AreShort (load_entries (granule_of m) loads areas)
+short-loads m size low [] areas are lows = tt
+short-loads m size low (p ∷ loads) [] are lows = tt
+short-loads m size low (p ∷ loads) (x ∷ areas) are lows =
+    (short-load m size low p x are.0 lows.0, short-loads m size (ceil_of (p.vaddr + p.memsz) (granule_of m)) loads areas are.1 lows.1)
+
+short-stack : (stack : Option Entry) → AreShort (stack_entries stack)
+short-stack None = tt
+short-stack (Some p) =
+    let mask : bit_and p.flags 7 ≡ p.flags % 8 = and_mask p.flags 3 in (
+      record {
+        flags = omega arith;
+        offset = omega arith;
+        vaddr = omega arith;
+        paddr = omega arith;
+        filesz = omega arith;
+        memsz = omega arith;
+        align = omega arith;
+      },
+      tt,
+    )
+
+short-note : (g size : ℕ) (loads : List Load) (areas : List Area) (p : Entry) → AreLoads g size 0 loads → AreLow areas → is_note loads p ≡ true → IsShort (note_entry g loads areas p)
+short-note g size loads areas p are lows is =
+    let rest = (split_and (p.kind == 4) (not (p.filesz == 0) && in_part p.vaddr p.filesz loads) is).1 in
+    let part = (split_and (not (p.filesz == 0)) (in_part p.vaddr p.filesz loads) rest).1 in
+    let top = in_part-top g size 0 p.vaddr p.filesz loads are part in
+    record {
+      flags = omega arith;
+      offset = place-short g size 0 p.vaddr loads areas are lows;
+      vaddr = omega arith;
+      paddr = omega arith;
+      filesz = omega arith;
+      memsz = omega arith;
+      align = short-by (p.align == 8) 8 4 (λ e. omega arith) (omega arith);
+    }
+
+short-notes : (g size : ℕ) (loads : List Load) (areas : List Area) (notes : List Entry) → AreLoads g size 0 loads → AreLow areas → All (λ p. is_note loads p ≡ true) notes
+    → AreShort (map (note_entry g loads areas) notes)
+short-notes g size loads areas [] are lows h = tt
+short-notes g size loads areas (p ∷ notes) are lows h =
+    (short-note g size loads areas p are lows (h 0 p (omega arith)), short-notes g size loads areas notes are lows (λ k d low. h (suc k) d (omega arith)))
+
+short-tls : (g size : ℕ) (loads : List Load) (areas : List Area) (tls : Option Entry) → AreLoads g size 0 loads → AreLow areas → IfSome tls (λ p. IsTls loads p) → AreShort (tls_entries g loads areas tls)
+short-tls g size loads areas None are lows h = tt
+short-tls g size loads areas (Some p) are lows h =
+    let sizes = h.sizes in
+    let small = h.small in
+    let top = h.top in
+    let aligned = h.aligned in (
+      record {
+        flags = omega arith;
+        offset = short-by (p.filesz == 0) 0 (place_of g loads areas p.vaddr) (λ e. omega arith) (place-short g size 0 p.vaddr loads areas are lows);
+        vaddr = omega arith;
+        paddr = omega arith;
+        filesz = omega arith;
+        memsz = omega arith;
+        align = omega arith;
+      },
+      tt,
+    )
+
+pub short-table : (news : List Area) (e : Taken) (areas : List Area) → Meets e → NewsLow news → ServeAll (granule_of e.machine) news e.loads areas → AreShort (table_of e areas)
+unfolding table_of
+short-table news e areas meets low s =
+    let g = granule_of e.machine in
+    let lows = low-areas g news e.loads areas low s in
+    let notes = map (note_entry g e.loads areas) e.notes in
+    let tls = tls_entries g e.loads areas e.tls in
+    short-append (load_entries g e.loads areas) (stack_entries e.stack ++ (notes ++ tls)) (short-loads e.machine e.size 0 e.loads areas meets.loads lows)
+    (short-append (stack_entries e.stack) (notes ++ tls) (short-stack e.stack)
+    (short-append notes tls (short-notes g e.size e.loads areas e.notes meets.loads lows meets.notes) (short-tls g e.size e.loads areas e.tls meets.loads lows meets.tls)))
+
+eighths-tables : (news : List Area) (inputs : List Taken) (more : List (List Area)) → All Meets inputs → NewsLow news → FitAll news inputs more → Eighths (tables_text inputs more)
+eighths-tables news [] more meets low fits = λ i. refl
+eighths-tables news (e ∷ inputs) [] meets low fits = absurd fits
+eighths-tables news (e ∷ inputs) (areas ∷ more) meets low fits =
+    let long = length-table_text news e areas fits.0 in
+    eighths-append (7 * entry_count e) (table_text e areas) (tables_text inputs more) (omega arith)
+    (eighths-table (table_of e areas) (short-table news e areas (meets 0 e (omega arith)) low fits.0))
+    (eighths-tables news inputs more (λ k d low. meets (suc k) d (omega arith)) low fits.1)
+
+-- ---- the body
+
+zeros-by : (text : List ℕ) → Eighths text → HasZeros (zeros 10 ++ text)
+zeros-by text h k fits =
+    elim (cases_lt k 10) [
+      | inl front ↦
+          (let long = length-zeros 10 in
+          let here : k + 0 ≡ k = omega arith in
+          (0, omega arith, ap (λ i. get_or (zeros 10 ++ text) i 0) here ∙ get_or_append_left (zeros 10) text 0 k (omega arith) ∙ get_or-zeros 10 k))
+      | inr past ↦
+          (let i : ℕ = 7 - (k - 10) % 8 in
+          let place : k + i - 10 ≡ 8 * ((k - 10) / 8) + 7 = omega arith in (
+            i,
+            omega arith,
+            get_or-append_right (zeros 10) text 10 (k + i) 0 (length-zeros 10) (omega arith) ∙ ap (λ n. get_or text n 0) place ∙ h ((k - 10) / 8),
+          ))
+    ]
+
+pub body-zeros : (inputs : List Taken) (l : Positions) → All Meets inputs → Fits inputs l → HasZeros (body_of inputs l)
+unfolding body_of
+body-zeros inputs l meets fits = zeros-by (tables_text inputs l.areas) (eighths-tables (new_areas BLOCK (joined l.areas)) inputs l.areas meets (news-low inputs l fits) fits.areas)

@@ -1,0 +1,30 @@
+use Rattle.std.proofs.Common.{◌++◌}
+use Rattle.ap_script.specs.Tables.{embedded_bytes}
+use Rattle.ap_script.specs.Blocks.{block_of}
+use Rattle.ap_script.specs.Stands.{statement_place}
+use Rattle.ap_script.proofs.Openings.{parts-holds}
+use Rattle.ap_script.proofs.StatementPlaces.{opens-only, parts-block, place-within}
+use Rattle.ap_script.proofs.TakenStatements.{count-places, places-order, embeds-block, header_for-input}
+use Rattle.ap_script.proofs.law.statements_stand.Goals as goal
+
+pub returns-clause-only : goal.returns-clause-only
+returns-clause-only c = opens-only
+
+pub returns-clause-count : goal.returns-clause-count
+returns-clause-count c = count-places
+
+pub returns-clause-order : goal.returns-clause-order
+returns-clause-order c = places-order
+
+pub returns-clause-text : goal.returns-clause-text
+returns-clause-text c = λ systems inputs l rest e t differ fits has.
+    parts-holds (block_of systems inputs l ++ rest) (statement_place systems inputs l e.machine) (embedded_bytes e t)
+    (parts-block systems inputs l rest e.machine (embedded_bytes e t) fits (header_for-input inputs l.tables e t differ has))
+
+pub returns-clause-within : goal.returns-clause-within
+returns-clause-within c = λ systems inputs l e t differ fits has.
+    place-within systems inputs l e.machine (embedded_bytes e t) fits (header_for-input inputs l.tables e t differ has)
+
+pub returns-clause-embeds : goal.returns-clause-embeds
+returns-clause-embeds c = λ systems inputs l rest e t differ fits has.
+    embeds-block systems inputs l rest e.machine (embedded_bytes e t) fits (header_for-input inputs l.tables e t differ has)

@@ -1,0 +1,48 @@
+-- The block of a linked file, its first 16384 bytes: a shell script that holds the program header tables as the body of a
+-- here-document, and an empty second half.
+use Rattle.std.specs.Prelude.{ℕ, ◌-◌, List, [], ◌∷◌, ◌++◌, length, replicate, codes}
+use Rattle.ap_fields.specs.declared.sizes.TheConstants.{BLOCK, WINDOW}
+use Rattle.ap_fields.specs.Bytes.{zeros}
+use Rattle.ap_check.specs.declared.machine.Machine.TheVariants.{X64, A64}
+use Rattle.ap_check.specs.declared.options.Systems.{Systems}
+use Rattle.ap_check.specs.Inputs.{Taken}
+use Rattle.ap_layout.specs.declared.layout.Area.{Area}
+use Rattle.ap_layout.specs.Positions.{Positions}
+use Rattle.ap_script.specs.Delimiter.{delimiter, delimiter_number}
+use Rattle.ap_script.specs.Tables.{table_text}
+use Rattle.ap_script.specs.Script.{script_of, header_for}
+
+-- bytes 0 to 85: an assignment, whose text holds zeros, with a here-document behind it
+unfoldable pub opening : ℕ → List ℕ
+opening number = codes "jartsr='\n" ++ (zeros 55 ++ (codes "' <<'" ++ (delimiter number ++ codes "'\n")))
+
+-- the program header tables of some inputs, one behind the other
+abbrev pub tables_text : List Taken → List (List Area) → List ℕ
+tables_text [] areas = []
+tables_text (e ∷ inputs) [] = []
+tables_text (e ∷ inputs) (areas ∷ more) = table_text e areas ++ tables_text inputs more
+
+-- the here-document's body, from 86 on: zeros up to 96, where the tables stand
+unfoldable pub body_of : List Taken → Positions → List ℕ
+body_of inputs l = zeros 10 ++ tables_text inputs l.areas
+
+-- the line that ends the here-document
+unfoldable pub closing : ℕ → List ℕ
+closing number = codes "\n" ++ (delimiter number ++ codes "\n")
+
+-- the script, by the inputs
+abbrev pub script_for : Systems → List Taken → Positions → List ℕ
+script_for systems inputs l = script_of systems (header_for X64 inputs l.tables) (header_for A64 inputs l.tables)
+
+unfoldable pub shell_text : Systems → List Taken → Positions → List ℕ
+shell_text systems inputs l =
+    let number = delimiter_number (body_of inputs l) in
+    opening number ++ (body_of inputs l ++ (closing number ++ script_for systems inputs l))
+
+unfoldable pub spaces : ℕ → List ℕ
+spaces n = replicate n 32
+
+-- the first half ends in spaces, and the second half is for a header that other systems read
+unfoldable pub block_of : Systems → List Taken → Positions → List ℕ
+block_of systems inputs l =
+    shell_text systems inputs l ++ (spaces (WINDOW - length (shell_text systems inputs l)) ++ zeros (BLOCK - WINDOW))

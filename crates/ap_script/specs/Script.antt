@@ -1,0 +1,81 @@
+-- The script of a linked file (POSIX.1 Shell Command Language): it hands the file to an APE loader where the system has one,
+-- and else copies it, writes the embedded ELF header for the machine over the copy's first bytes and starts the copy. It is a
+-- function of the systems that were chosen and of the embedded header of each machine that an input is for.
+use Rattle.std.specs.Prelude.{ℕ, ◌==◌, not, if◌then◌else◌, Bool, true, false, List, [], ◌∷◌, ◌++◌, codes, Option, Some, None, bit_and}
+use Rattle.ap_octal.specs.Statement.{statement_of}
+use Rattle.ap_check.specs.declared.options.Systems.{Systems}
+use Rattle.ap_check.specs.declared.machine.Machine.{Machine}
+use Rattle.ap_check.specs.declared.machine.Machine.TheVariants.{X64, A64}
+use Rattle.ap_check.specs.Inputs.{Taken}
+use Rattle.ap_script.specs.Tables.{embedded_bytes}
+
+-- the script up to the test of the system
+unfoldable pub script_start : List ℕ
+script_start =
+    codes "if command -v ape >/dev/null 2>&1; then\nexec ape \"$0\" \"$@\"\nfi\n"
+    ++ codes "m=$(uname -m)\ns=$(uname -s)\nt=\"${TMPDIR:-/tmp}/ape.$$\"\n"
+
+-- whether the system of a bit was chosen
+abbrev pub has_system : Systems → ℕ → Bool
+has_system systems bit = not (bit_and systems.0 bit == 0)
+
+-- the names that `uname -s` answers on the systems that were chosen, of those whose kernels run ELF files
+abbrev pub kernels_of : Systems → List (List ℕ)
+kernels_of systems =
+    (if has_system systems 1 then codes "Linux" ∷ [] else [])
+    ++ ((if has_system systems 2 then codes "FreeBSD" ∷ [] else [])
+    ++ (if has_system systems 4 then codes "NetBSD" ∷ [] else []))
+
+abbrev pub kernel_test : List ℕ → List ℕ
+kernel_test name = codes "[ \"$s\" = " ++ (name ++ codes " ]")
+
+-- a test where it was chosen, behind others or as the first
+abbrev pub chosen_test : Bool → Bool → List ℕ → List ℕ
+chosen_test chosen behind test = if chosen then (if behind then codes " || " else []) ++ test else []
+
+-- one of some tests
+abbrev pub or_tests : List (List ℕ) → List ℕ
+or_tests [] = codes "[ 0 = 1 ]"
+or_tests (name ∷ []) = kernel_test name
+or_tests (name ∷ next ∷ names) = kernel_test name ++ (codes " || " ++ or_tests (next ∷ names))
+
+-- the line that tests the system
+unfoldable pub system_line : Systems → List ℕ
+system_line systems = codes "if " ++ (or_tests (kernels_of systems) ++ codes "; then\n")
+
+-- the names that `uname -m` answers on a machine
+abbrev pub machine_names : Machine → List ℕ × List ℕ
+machine_names X64 = (codes "x86_64", codes "amd64")
+machine_names A64 = (codes "aarch64", codes "arm64")
+
+-- the lines for a machine up to the statement, and from there on
+unfoldable pub machine_start : Machine → List ℕ
+machine_start m =
+    codes "if [ \"$m\" = " ++ ((machine_names m).0 ++ (codes " ] || [ \"$m\" = " ++ ((machine_names m).1
+    ++ codes " ]; then\ncp \"$0\" \"$t\" || exit 121\nchmod 700 \"$t\" || exit 122\n")))
+
+unfoldable pub machine_end : List ℕ
+machine_end = codes " 1<>\"$t\" || exit 124\nexec \"$t\" \"$@\"\nfi\n"
+
+-- the lines for a machine, where there is an input for it
+abbrev pub machine_lines : Machine → Option (List ℕ) → List ℕ
+machine_lines m None = []
+machine_lines m (Some header) = machine_start m ++ (statement_of header ++ machine_end)
+
+unfoldable pub script_end : List ℕ
+script_end = codes "fi\nexit 126\n"
+
+unfoldable pub script_of : Systems → Option (List ℕ) → Option (List ℕ) → List ℕ
+script_of systems x64 a64 =
+    script_start ++ (system_line systems ++ (machine_lines X64 x64 ++ (machine_lines A64 a64 ++ script_end)))
+
+-- the embedded header of the input for a machine, by the inputs and the places of their tables
+abbrev pub is_machine : Machine → Machine → Bool
+is_machine X64 X64 = true
+is_machine A64 A64 = true
+is_machine m n = false
+
+abbrev pub header_for : Machine → List Taken → List ℕ → Option (List ℕ)
+header_for m [] tables = None
+header_for m (e ∷ inputs) [] = None
+header_for m (e ∷ inputs) (t ∷ tables) = if is_machine m e.machine then Some (embedded_bytes e t) else header_for m inputs tables

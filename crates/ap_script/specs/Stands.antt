@@ -1,0 +1,57 @@
+-- What stands in the block of a linked file, and where.
+use Rattle.std.specs.Prelude.{◌≡◌, ◌≢◌, ◌⊎◌, ℕ, ◌+◌, ◌<◌, ◌≤◌, List, [], ◌∷◌, ◌++◌, length, All, slice_index, Option, Some, None}
+use Rattle.ap_fields.specs.Bytes.{Holds}
+use Rattle.ap_check.specs.declared.machine.Machine.{Machine}
+use Rattle.ap_check.specs.declared.machine.Machine.TheVariants.{X64, A64}
+use Rattle.ap_check.specs.declared.options.Systems.{Systems}
+use Rattle.ap_check.specs.Inputs.{Taken}
+use Rattle.ap_layout.specs.declared.layout.Area.{Area}
+use Rattle.ap_layout.specs.Positions.{Positions}
+use Rattle.ap_script.specs.Tables.{table_text}
+use Rattle.ap_script.specs.Script.{script_start, system_line, machine_start, machine_lines, header_for}
+
+-- no two inputs are for the same machine
+abbrev pub MachinesDiffer : List Taken → Type 0
+MachinesDiffer [] = Unit {0}
+MachinesDiffer (e ∷ inputs) = All (λ f. e.machine ≢ f.machine) inputs × MachinesDiffer inputs
+
+-- an input is one of some, and its program header table has this place
+abbrev pub HasTable : List Taken → List ℕ → Taken → ℕ → Type 0
+HasTable [] tables f u = ⊥
+HasTable (e ∷ inputs) [] f u = ⊥
+HasTable (e ∷ inputs) (t ∷ tables) f u = ((e ≡ f) × (t ≡ u)) ⊎ HasTable inputs tables f u
+
+-- a file has the program header table of each input at its place
+abbrev pub HoldsTables : List ℕ → List Taken → List (List Area) → List ℕ → Type 0
+HoldsTables file [] areas tables = Unit {0}
+HoldsTables file (e ∷ inputs) [] tables = ⊥
+HoldsTables file (e ∷ inputs) (areas ∷ more) [] = ⊥
+HoldsTables file (e ∷ inputs) (areas ∷ more) (t ∷ tables) = Holds file t (table_text e areas) × HoldsTables file inputs more tables
+
+-- each eight bytes of a text that follow each other hold a zero byte
+abbrev pub HasZeros : List ℕ → Type 0
+HasZeros text = (k : ℕ) → k + 8 ≤ length text → (i : ℕ) × (i < 8) × (slice_index text (k + i) ≡ 0)
+
+-- a text has another as a part, as each of its lines is one
+abbrev pub HasPart : List ℕ → List ℕ → Type 0
+HasPart text part = (front : List ℕ) × (behind : List ℕ) × (text ≡ front ++ (part ++ behind))
+
+-- where the lines for machines begin: behind the body, the delimiter's line of 17 bytes and the script's first lines
+abbrev pub machines_start : Systems → Positions → ℕ
+machines_start systems l = l.body_end + (17 + (length script_start + length (system_line systems)))
+
+-- where the statement for a machine stands
+abbrev pub statement_place : Systems → List Taken → Positions → Machine → ℕ
+statement_place systems inputs l X64 = machines_start systems l + length (machine_start X64)
+statement_place systems inputs l A64 = machines_start systems l + (length (machine_lines X64 (header_for X64 inputs l.tables)) + length (machine_start A64))
+
+-- a place, where there is a header
+abbrev pub place_if : Option (List ℕ) → ℕ → List ℕ
+place_if None place = []
+place_if (Some header) place = place ∷ []
+
+-- where the script has its statements, that for x86-64 first
+abbrev pub statement_places : Systems → List Taken → Positions → List ℕ
+statement_places systems inputs l =
+    place_if (header_for X64 inputs l.tables) (statement_place systems inputs l X64)
+    ++ place_if (header_for A64 inputs l.tables) (statement_place systems inputs l A64)

@@ -1,0 +1,68 @@
+// The embedded header of an input.
+ghost use Rattle.std.specs.Prelude.{◌≡◌, ◌<◌, length};
+ghost use Rattle.ap_layout.specs.Positions.{Fits};
+ghost use Rattle.ap_script.specs.Jobs.{job_inputs};
+ghost use Rattle.ap_script.specs.Script as script;
+ghost use Rattle.ap_script.specs.Tables as spec;
+ghost use Rattle.ap_script.specs.Tables.{embedded_bytes, embedded_at};
+
+use ap_check::{Input, Job, Machine};
+use ap_elf::{Header, header_bytes};
+use ap_layout::{Layout, entry_count};
+
+/// The embedded header of input `i`, counted from 0, where the parts of the linked file have these places: the ELF header of
+/// an executable file whose program header table is the one that stands in the linked file for the input.
+pub fn elf_header(job: &Job<'_>, lay: &Layout, i: usize) -> [u8; 64]
+    requires input { i < length (job_inputs job.now) }
+    requires fits { Fits (job_inputs job.now) lay.now }
+    ensures { result ≡ embedded_at (job_inputs job.now) lay.now.tables i }
+{
+    match job.second {
+        Some(second) if i == 1 => input_header(second, lay.tables[1]),
+        _ => input_header(job.first, lay.tables[0]),
+    }
+}
+
+/// The embedded header of the first input for a machine.
+pub(crate) fn machine_header(job: &Job<'_>, lay: &Layout, machine: Machine) -> Option<[u8; 64]>
+    requires { Fits (job_inputs job.now) lay.now }
+    ensures { result ≡ script.header_for machine (job_inputs job.now) lay.now.tables }
+{
+    if is_for(job.first, machine) {
+        return Some(elf_header(job, lay, 0));
+    }
+    match job.second {
+        Some(second) if is_for(second, machine) => Some(elf_header(job, lay, 1)),
+        _ => None,
+    }
+}
+
+fn is_for(input: &Input, machine: Machine) -> bool
+    ensures { result ≡ script.is_machine machine input.now.machine }
+{
+    input.machine == machine
+}
+
+fn input_header(input: &Input, at: u32) -> [u8; 64]
+    ensures { result ≡ embedded_bytes input.now at }
+{
+    header_bytes(&embedded_header(input, at))
+}
+
+#[tactic(auto, unfolding(crate::specs::Tables::embedded_header))]
+fn embedded_header(input: &Input, at: u32) -> Header
+    ensures { result ≡ spec.embedded_header input.now at }
+{
+    Header {
+        ident: *b"\x7fELF\x02\x01\x01\x09\0\0\0\0\0\0\0\0",
+        e_type: 2,
+        e_machine: input.machine.number(),
+        e_version: 1,
+        e_entry: input.entry,
+        e_phoff: u64::from(at),
+        e_ehsize: 64,
+        e_phentsize: 56,
+        e_phnum: entry_count(input),
+        ..Header::default()
+    }
+}
