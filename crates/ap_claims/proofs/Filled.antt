@@ -35,7 +35,7 @@ pub record IsSized (b : BlockState) : Type 0 where
   pub bytes : length b.bytes ≡ BLOCK
   pub owners : length b.owners ≡ BLOCK
 
-claimed-sized : (c : Claim) (b : BlockState) → IsSized b → IsSized (claimed c.owner b c.at c.bytes)
+pub claimed-sized : (c : Claim) (b : BlockState) → IsSized b → IsSized (claimed c.owner b c.at c.bytes)
 claimed-sized c b h =
     let sizes = claimed-sizes c.owner b c.at c.bytes in
     record { bytes = sizes.0 ∙ h.bytes; owners = sizes.1 ∙ h.owners }
@@ -107,13 +107,13 @@ claims_on-owners (c ∷ claims) b k sized pass =
       | inr off ↦ rest ∙ ap (λ (s : ℕ). owners_with s claims k) ((claimed-outside c.owner b c.at c.bytes k off.0).1 ∙ sym (cond-false (has_place c k) (bit_or (get_or b.owners k 0) (only c.owner)) (get_or b.owners k 0) off.1))
     ]
 
-free_block-sized : IsSized free_block
+pub free_block-sized : IsSized free_block
 unfolding free_block
 free_block-sized =
     let zero_byte : ℕ = 0 in
     record { bytes = length-replicate BLOCK zero_byte; owners = length-replicate BLOCK zero_byte }
 
-free_block-at : (k : ℕ) → (get_or free_block.bytes k 0 ≡ 0) × (get_or free_block.owners k 0 ≡ 0)
+pub free_block-at : (k : ℕ) → (get_or free_block.bytes k 0 ≡ 0) × (get_or free_block.owners k 0 ≡ 0)
 unfolding free_block
 free_block-at k = (get_or-free BLOCK k 0, get_or-free BLOCK k 0)
 

@@ -6,3 +6,5 @@ pub mod Clashes
 pub mod Filled
 pub mod OneFile
 pub mod Writers
+pub mod Unclashed
+pub mod Growing

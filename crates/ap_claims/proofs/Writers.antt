@@ -1,5 +1,5 @@
 -- Writers of claims, one after the other.
-use Rattle.std.proofs.Common.{◌≡◌, ℕ, zero, suc, ◌+◌, List, [], ◌∷◌, ◌++◌, length, take, Option, Some, None, Result, Ok, Err, refl, sym, ap, ◌∙◌, arith}
+use Rattle.std.proofs.Common.{◌≡◌, ℕ, zero, suc, ◌+◌, List, [], ◌∷◌, ◌++◌, length, take, Option, Some, None, Result, Ok, Err, refl, sym, ap, ◌∙◌, subst, arith}
 use Rattle.ap_claims.specs.declared.block.Clash.{Clash}
 use Rattle.ap_claims.specs.Blocks.{BlockState, clash_of, claimed, Claims}
 use Rattle.ap_claims.specs.Lists.{Claim, claims_on, clash_on, first_clash, Makes, AreWriters}
@@ -59,5 +59,31 @@ makes-stopped xs ys b c e h =
 
 pub are-writers : AreWriters
 are-writers = record { one = makes-one; onward = makes-onward; stopped = makes-stopped }
+
+-- ---- writers that stop at a clash, as `?` does
+
+-- no claim at all
+pub makes-none : (b : BlockState) → Makes b b [] (Ok tt)
+makes-none b = (refl, refl)
+
+-- a writer that clashes, in front of others
+pub stopped-writer : (xs ys : List Claim) (b after : BlockState) (made answer : Result (Unit {0}) Clash) (clash : Clash) → Makes b after xs made → made ≡ Err clash → answer ≡ Err clash → Makes b after (xs ++ ys) answer
+stopped-writer xs ys b after made answer clash h stops is = subst (Makes b after (xs ++ ys)) (sym is) (makes-stopped xs ys b after clash (subst (Makes b after xs) stops h))
+
+-- a writer that doesn't
+pub next-writer : (xs ys : List Claim) (b between after : BlockState) (made answer : Result (Unit {0}) Clash) (done : Unit {0}) → Makes b between xs made → made ≡ Ok done → Makes between after ys answer → Makes b after (xs ++ ys) answer
+next-writer xs ys b between after made answer done h goes later = makes-onward xs ys b between after answer (subst (Makes b between xs) goes h) later
+
+-- the same of one claim, of bytes that are spelled otherwise
+pub one-claim : (c : Claim) (b after : BlockState) (bytes : List ℕ) (answer : Result (Unit {0}) Clash) → bytes ≡ c.bytes → Claims c.owner b after c.at bytes answer → Makes b after (c ∷ []) answer
+one-claim c b after bytes answer spelled h = makes-one c b after answer (subst (λ (v : List ℕ). Claims c.owner b after c.at v answer) spelled h)
+
+pub stopped-claim : (c : Claim) (more : List Claim) (b after : BlockState) (bytes : List ℕ) (made answer : Result (Unit {0}) Clash) (clash : Clash)
+    → bytes ≡ c.bytes → Claims c.owner b after c.at bytes made → made ≡ Err clash → answer ≡ Err clash → Makes b after (c ∷ more) answer
+stopped-claim c more b after bytes made answer clash spelled h stops is = stopped-writer (c ∷ []) more b after made answer clash (one-claim c b after bytes made spelled h) stops is
+
+pub next-claim : (c : Claim) (more : List Claim) (b between after : BlockState) (bytes : List ℕ) (made answer : Result (Unit {0}) Clash) (done : Unit {0})
+    → bytes ≡ c.bytes → Claims c.owner b between c.at bytes made → made ≡ Ok done → Makes between after more answer → Makes b after (c ∷ more) answer
+next-claim c more b between after bytes made answer done spelled h goes later = next-writer (c ∷ []) more b between after made answer done (one-claim c b between bytes made spelled h) goes later
 
 pub ruleset make_steps = (makes-one, makes-onward, makes-stopped)

@@ -54,3 +54,7 @@ ClaimsAgree = (size : ℕ) (claims : List Claim) (file : List ℕ) → IsFile si
 -- Claims have one file of a size.
 abbrev pub FilesAreOne : Type 0
 FilesAreOne = (size : ℕ) (claims : List Claim) (file other : List ℕ) → IsFile size claims file → IsFile size claims other → file ≡ other
+
+-- Claims that have a file of the block's size don't clash, whichever is made first.
+abbrev pub FilesDontClash : Type 0
+FilesDontClash = (claims : List Claim) (file : List ℕ) → IsFile BLOCK claims file → clash_on free_block claims ≡ None
