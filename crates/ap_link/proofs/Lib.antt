@@ -22,3 +22,6 @@ pub mod LaidAreas
 pub mod PutInputs
 pub mod Delivering
 pub mod Handing
+pub mod ClaimedFiles
+pub mod Filling
+pub mod Lending

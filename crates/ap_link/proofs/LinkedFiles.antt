@@ -4,6 +4,8 @@ use Rattle.std.proofs.lemmas.Bool.Decides.{nat_tests}
 use Rattle.ap_fields.specs.Bytes.{Holds, over}
 use Rattle.ap_fields.specs.Readings.{MemoryImage, bytes_in}
 use Rattle.ap_fields.specs.declared.sizes.TheConstants.{BLOCK}
+use Rattle.ap_claims.specs.Files.{IsFile}
+use Rattle.ap_claims.proofs.OneFile.{claims-agree}
 use Rattle.ap_elf.specs.declared.types.Entry.{Entry}
 use Rattle.ap_elf.specs.declared.fault.ElfFault.{ElfFault}
 use Rattle.ap_elf.specs.Fields.{header_of, entries_of, loads_in}
@@ -30,6 +32,8 @@ use Rattle.ap_layout.proofs.Fitting.{positions-fit, table-most}
 use Rattle.ap_script.specs.Tables.{embedded_bytes, table_text}
 use Rattle.ap_script.specs.Blocks.{block_of}
 use Rattle.ap_script.specs.Stands.{MachinesDiffer, HasTable, statement_place}
+use Rattle.ap_script.specs.Claims.{block_claims}
+use Rattle.ap_script.proofs.Claimed.{block-claimed}
 use Rattle.ap_script.proofs.BlockParts.{length-block, block-magic, block-tables}
 use Rattle.ap_script.proofs.Openings.{parts-holds}
 use Rattle.ap_script.proofs.StatementPlaces.{opens-only, parts-block}
@@ -37,7 +41,9 @@ use Rattle.ap_script.proofs.TakenStatements.{count-places, taken-block, header_f
 use Rattle.ap_link.specs.Same.{Same}
 use Rattle.ap_link.specs.LinkedIn.{HoldAll, IsLinkedIn}
 use Rattle.ap_link.specs.Linked.{input_text, input_end, tail_of, block_for, second_of, taken_second, linked_of}
+use Rattle.ap_link.specs.LinkedClaims.{linked_claims, tail_claims}
 use Rattle.ap_link.specs.Answers.{Carries, IsLinked}
+use Rattle.ap_link.proofs.ClaimedFiles.{whole-claimed}
 use Rattle.ap_link.proofs.LinkedImages.{elf-is-same, ape-is-same}
 use Rattle.ap_link.proofs.PlacedTexts.{length-text, text-held}
 
@@ -235,6 +241,12 @@ carries systems inputs l rest n table b areas meets differ fits has linked =
 
 -- ---- the whole
 
+claimed-file : (systems : Systems) (e : Taken) (a : List ℕ) (o : Option (Taken × List ℕ)) → AreLinkable e (bare-of o)
+    → IsFile (positions_of e (bare-of o)).total (block_claims systems (inputs_of e (bare-of o)) (positions_of e (bare-of o)) ++ tail_claims e a o) (file-of systems e a o)
+claimed-file systems e a o h =
+    whole-claimed (block_for systems e (bare-of o)) (block_claims systems (inputs_of e (bare-of o)) (positions_of e (bare-of o))) e a o (positions_of e (bare-of o)).total
+    (block-claimed systems (inputs_of e (bare-of o)) (positions_of e (bare-of o)) (positions-fit e (bare-of o) h.first h.second)) (file-length systems e a o h)
+
 taken-with : (b : Option (List ℕ)) → bare-of (second_of b) ≡ taken_second b
 taken-with None = refl
 taken-with (Some x) = refl
@@ -254,6 +266,8 @@ file-linked systems a None h =
       count = count-places systems (inputs_of e None) l differ fits;
       first = carries systems (inputs_of e None) l (tail_of e a None) 1 tables_start a (input_areas e BLOCK) meets differ fits (has-first tables_start l.body_end e [] l.tables fits.tables) (first-linked systems 1 a None h);
       second = tt;
+      claims = claimed-file systems e a None h;
+      agree = claims-agree l.total (linked_claims systems a None) (linked_of systems a None) (claimed-file systems e a None h);
     }
 file-linked systems a (Some b) h =
     let e : Taken = input_of 1 a in
@@ -272,6 +286,8 @@ file-linked systems a (Some b) h =
           (has-first tables_start l.body_end e (f ∷ []) l.tables fits.tables) (first-linked systems 1 a o h);
       second = carries systems (inputs_of e (Some f)) l (tail_of e a o) 2 (tables_start + table_length e) b (input_areas f (input_end e)) meets differ fits
           (has-second tables_start l.body_end e f [] l.tables fits.tables) (second-linked systems 2 e a b h);
+      claims = claimed-file systems e a o h;
+      agree = claims-agree l.total (linked_claims systems a (Some b)) (linked_of systems a (Some b)) (claimed-file systems e a o h);
     }
 
 -- ---- inputs that break no rule

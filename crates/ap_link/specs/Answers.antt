@@ -3,6 +3,7 @@ use Rattle.std.specs.Prelude.{◌≡◌, ◌↔◌, ℕ, ◌+◌, List, length, 
 use Rattle.std.specs.declared.alloc.Global.{Global}
 use Rattle.ap_fields.specs.Bytes.{Holds, over}
 use Rattle.ap_fields.specs.Readings.{bytes_in}
+use Rattle.ap_claims.specs.Files.{IsFile, Agree}
 use Rattle.ap_elf.specs.Fields.{header_of, entries_of, loads_in}
 use Rattle.ap_elf.specs.ElfReading.{elf_reading}
 use Rattle.ap_check.specs.declared.options.Systems.{Systems}
@@ -20,6 +21,7 @@ use Rattle.ap_link.specs.declared.fault.LinkFault.{LinkFault}
 use Rattle.ap_link.specs.declared.fault.LinkFault.TheVariants as fault
 use Rattle.ap_link.specs.Same.{Same}
 use Rattle.ap_link.specs.Linked.{linked_of, taken_second}
+use Rattle.ap_link.specs.LinkedClaims.{linked_claims}
 
 -- the inputs that are taken, and the positions of their linked file
 abbrev pub inputs_in : List ℕ → Option (List ℕ) → List Taken
@@ -49,8 +51,8 @@ CarriesSecond systems a b file =
     Carries b e (tables_start + table_length (input_of 1 a)) (statement_place systems (inputs_in a (Some b)) (positions_in a (Some b)) e.machine) file
 
 -- What a linked file of one or two inputs is, and what stands of it: its bytes and its size; that `printf '` stands in its
--- window where the script has statements and nowhere else, which are one for each input, that for x86-64 first; and what it
--- carries of each input.
+-- window where the script has statements and nowhere else, which are one for each input, that for x86-64 first; what it carries
+-- of each input; and that it is the file of its claims, which agree where they meet.
 pub record IsLinked (systems : Systems) (a : List ℕ) (b : Option (List ℕ)) (file : List ℕ) : Type 0 where
   pub bytes : file ≡ linked_of systems a b
   pub size : length file ≡ (positions_in a b).total
@@ -58,6 +60,8 @@ pub record IsLinked (systems : Systems) (a : List ℕ) (b : Option (List ℕ)) (
   pub count : length (statement_places systems (inputs_in a b) (positions_in a b)) ≡ length (inputs_in a b)
   pub first : CarriesFirst systems a b file
   pub second : IfSome b (λ c. CarriesSecond systems a c file)
+  pub claims : IsFile (positions_in a b).total (linked_claims systems a b) file
+  pub agree : Agree (linked_claims systems a b)
 
 -- the linked file where all rules hold, else the fault of the first that doesn't, unless memory runs out
 abbrev pub LinkAnswers : Systems → Result (Vec ℕ Global) LinkFault → List ℕ → Option (List ℕ) → Type 0

@@ -1,4 +1,5 @@
 pub mod Linked
+pub mod LinkedClaims
 pub mod Nexts
 pub mod Transfers
 pub mod Sources
@@ -7,3 +8,4 @@ pub mod LinkedIn
 pub mod Images
 pub mod Answers
 pub mod FileAnswers
+pub mod Lent

@@ -1,33 +1,43 @@
 // The linked file of a job, in memory.
 ghost use Rattle.std.specs.Prelude.{◌≡◌, ◌<◌, ◌^◌, ◌++◌, length, IfOk, OnOk, IfSome, option_copied};
+ghost use Rattle.ap_claims.specs.Blocks.{free_block};
+ghost use Rattle.ap_claims.specs.Files.{IsFilled};
 ghost use Rattle.ap_check.specs.Inputs.{Meets};
 ghost use Rattle.ap_check.specs.Machines.{granule_of};
 ghost use Rattle.ap_layout.specs.Positions.{positions_of, input_areas};
+ghost use Rattle.ap_script.specs.Claims.{block_claims};
+ghost use Rattle.ap_script.specs.Jobs.{job_inputs};
 ghost use Rattle.ap_link.specs.Linked.{tail_of, input_text, block_for, with_bytes};
 
 use crate::areas::Placed;
 use crate::bytes::push_areas;
+use crate::fill::fill;
 use crate::laid::{areas_of, end_behind};
 use ap_check::{Input, Job};
+use ap_claims::Block;
 use ap_fields::BLOCK;
 use ap_layout::{Area, Layout, place};
-use ap_script::block_bytes;
 use std::alloc::{AllocError, Global};
 
-/// The linked file of a job whose inputs have these bytes; there are none of a second input where there is one input.
+/// The linked file of a job whose inputs have these bytes; there are none of a second input where there is one input. The block,
+/// which is free, is filled by the file's claims.
 pub fn build(
     alloc: Global,
     job: &Job<'_>,
     first: &[u8],
     second: &[u8],
+    block: &mut Block,
 ) -> Result<Vec<u8>, AllocError>
     requires first { length first.now ≡ job.now.first.now.size }
     requires second { IfSome (option_copied job.now.second) (λ e. length second.now ≡ e.size) }
-    ensures { IfOk result (λ v. v.items ≡ block_for job.now.options.systems job.now.first.now (option_copied job.now.second) ++ tail_of job.now.first.now first.now (with_bytes (option_copied job.now.second) second.now)) }
+    requires free { block.old ≡ free_block }
+    ensures filled { IsFilled (block_claims job.now.options.systems (job_inputs job.now) (positions_of job.now.first.now (option_copied job.now.second))) block.new }
+    ensures file { IfOk result (λ v. v.items ≡ block_for job.now.options.systems job.now.first.now (option_copied job.now.second) ++ tail_of job.now.first.now first.now (with_bytes (option_copied job.now.second) second.now)) }
 {
     let lay = place(job);
+    fill(block, job, &lay);
     let mut out = Vec::with_capacity(alloc, lay.total as usize)?;
-    out.extend_from_slice(&block_bytes(job, &lay))?;
+    out.extend_from_slice(block.bytes())?;
     push_inputs(&mut out, job, &lay, first, second)?;
     Ok(out)
 }

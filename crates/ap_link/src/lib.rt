@@ -7,6 +7,7 @@ mod bytes;
 mod copy;
 mod end;
 mod fault;
+mod fill;
 mod image;
 mod laid;
 mod linker;

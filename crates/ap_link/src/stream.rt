@@ -1,19 +1,21 @@
 // The linker over files.
 ghost use Rattle.std.specs.Prelude.{◌≡◌, ◌≢◌, IfSome, Some, None, option_copied};
+ghost use Rattle.ap_claims.specs.Blocks.{free_block};
 ghost use Rattle.ap_link.specs.FileAnswers.{LinksFiles};
+ghost use Rattle.ap_link.specs.Lent.{LendsToFiles};
 ghost use Rattle.ap_link.specs.Sources.{IsSource, second_name, second_taken};
 
 use crate::end::{LinkEnd, end_of_check, end_of_copy};
+use crate::fill::fill;
 use crate::make::make_file;
 use crate::source::{Source, Sources};
 use ap_check::{Input, Options, check_all, check_input_in};
+use ap_claims::Block;
 use ap_files::Files;
 use ap_layout::place;
-use ap_script::block_bytes;
 
 /// Links the file `first`, and the file `second` where there is one, into the file `out`, and answers the size of the linked
-/// file in bytes. Which of Linux, FreeBSD and NetBSD it is for stands in the options, of which nothing else is looked at so
-/// far.
+/// file in bytes. Which systems it is for stands in the options, of which nothing else is looked at so far.
 ///
 /// Nothing is started before every rule holds. Then the inputs' bytes are read and written in pieces, so that inputs of any
 /// size take no memory of the heap.
@@ -21,16 +23,22 @@ use ap_script::block_bytes;
 /// - `Rule`: the inputs break a rule, and this is the first one, all of input 1 before those of input 2; no file changed.
 /// - `ReadFault`: an input isn't there, or a read failed; no file changed, or `out` has a front of the linked file.
 /// - `WriteFault`: a write failed; no file changed, or `out` has a front of the linked file.
+///
+/// The block, which is free, holds the first bytes of the linked file afterwards, each with the owners that claim it. Where the
+/// inputs break a rule it stays as it was, and after a failure it is either.
 pub fn link_stream<F: Files>(
     first: &str,
     second: Option<&str>,
     options: &Options,
     out: &str,
     files: &mut F,
+    block: &mut Block,
 ) -> Result<u64, LinkEnd>
     requires first { first.now ≢ out.now }
     requires second { IfSome (option_copied second) (λ n. n ≢ out.now) }
-    ensures { LinksFiles options.now.systems (F.state files.old) (F.state files.new) first.now (option_copied second.entry) out.now result }
+    requires free { block.old ≡ free_block }
+    ensures block { LendsToFiles options.now.systems (F.state files.old).kept block.old block.new first.now (option_copied second.entry) result }
+    ensures files { LinksFiles options.now.systems (F.state files.old) (F.state files.new) first.now (option_copied second.entry) out.now result }
 {
     let input = match check_input_in(files, first, 1) {
         Ok(input) => input,
@@ -41,8 +49,8 @@ pub fn link_stream<F: Files>(
         input: &input,
     };
     match second {
-        None => link_first(files, &source, options, out),
-        Some(name) => link_second(files, &source, name, options, out),
+        None => link_first(files, &source, options, out, block),
+        Some(name) => link_second(files, &source, name, options, out, block),
     }
 }
 
@@ -52,16 +60,19 @@ fn link_first<F: Files>(
     first: &Source<'_>,
     options: &Options,
     out: &str,
+    block: &mut Block,
 ) -> Result<u64, LinkEnd>
     requires first { IsSource (F.state files.old).kept 1 first.now }
     requires apart { first.now.name.now ≢ out.now }
-    ensures { LinksFiles options.now.systems (F.state files.old) (F.state files.new) first.now.name.now None out.now result }
+    requires free { block.old ≡ free_block }
+    ensures block { LendsToFiles options.now.systems (F.state files.old).kept block.old block.new first.now.name.now None result }
+    ensures files { LinksFiles options.now.systems (F.state files.old) (F.state files.new) first.now.name.now None out.now result }
 {
     let sources = Sources {
         first: *first,
         second: None,
     };
-    link_sources(files, &sources, options, out)
+    link_sources(files, &sources, options, out, block)
 }
 
 // Links the first input, which was taken, and the file `name`.
@@ -71,11 +82,14 @@ fn link_second<F: Files>(
     name: &str,
     options: &Options,
     out: &str,
+    block: &mut Block,
 ) -> Result<u64, LinkEnd>
     requires first { IsSource (F.state files.old).kept 1 first.now }
     requires apart { first.now.name.now ≢ out.now }
     requires others { name.now ≢ out.now }
-    ensures { LinksFiles options.now.systems (F.state files.old) (F.state files.new) first.now.name.now (Some name.now) out.now result }
+    requires free { block.old ≡ free_block }
+    ensures block { LendsToFiles options.now.systems (F.state files.old).kept block.old block.new first.now.name.now (Some name.now) result }
+    ensures files { LinksFiles options.now.systems (F.state files.old) (F.state files.new) first.now.name.now (Some name.now) out.now result }
 {
     let input = match check_input_in(files, name, 2) {
         Ok(input) => input,
@@ -89,7 +103,7 @@ fn link_second<F: Files>(
         first: *first,
         second: Some(second),
     };
-    link_sources(files, &sources, options, out)
+    link_sources(files, &sources, options, out, block)
 }
 
 // Links inputs that were taken.
@@ -98,20 +112,23 @@ fn link_sources<F: Files>(
     sources: &Sources<'_>,
     options: &Options,
     out: &str,
+    block: &mut Block,
 ) -> Result<u64, LinkEnd>
     requires first { IsSource (F.state files.old).kept 1 sources.now.first }
     requires second { IfSome sources.now.second (λ s. IsSource (F.state files.old).kept 2 s) }
     requires apart { sources.now.first.name.now ≢ out.now }
     requires others { IfSome sources.now.second (λ s. s.name.now ≢ out.now) }
-    ensures { LinksFiles options.now.systems (F.state files.old) (F.state files.new) sources.now.first.name.now (second_name sources.now.second) out.now result }
+    requires free { block.old ≡ free_block }
+    ensures block { LendsToFiles options.now.systems (F.state files.old).kept block.old block.new sources.now.first.name.now (second_name sources.now.second) result }
+    ensures files { LinksFiles options.now.systems (F.state files.old) (F.state files.new) sources.now.first.name.now (second_name sources.now.second) out.now result }
 {
     let job = match check_all(sources.first.input, second_input(sources), options) {
         Ok(job) => job,
         Err(fault) => return Err(LinkEnd::Rule(fault)),
     };
     let lay = place(&job);
-    let block = block_bytes(&job, &lay);
-    match make_file(files, sources, &lay, &block, out) {
+    fill(block, &job, &lay);
+    match make_file(files, sources, &lay, block.bytes(), out) {
         Ok(()) => Ok(lay.total),
         Err(fault) => Err(end_of_copy(fault)),
     }

@@ -3,6 +3,7 @@ ghost use Rattle.std.specs.Prelude.{◌≢◌, IfSome, option_copied, codes};
 
 use crate::{LinkEnd, LinkFault, link as link_bytes, link_stream};
 use ap_check::{Fault, Options, Systems};
+use ap_claims::{Block, Owners};
 use ap_files::MemoryFiles;
 use std::alloc::Global;
 use std::process::Abort;
@@ -48,7 +49,7 @@ fn link(files: &mut MemoryFiles, first: &str, second: Option<&str>) -> Result<u6
         systems: Systems::LINUX,
         ..Options::default()
     };
-    link_stream(first, second, &options, "out", files)
+    link_stream(first, second, &options, "out", files, &mut Block::new())
 }
 
 fn broken(rule: u8, input: u8, value: u64) -> Result<u64, LinkEnd> {
@@ -106,17 +107,41 @@ fn bytes_are_linked(rt: HostRuntime) -> Result<(), Fail> {
     };
     let mut files = files_of(rt.alloc(), &[])?;
     assert!(rt; link(&mut files, "a", Some("b")).is_ok());
-    let other = other();
-    let Ok(file) = link_bytes(rt.alloc(), &PLAIN, Some(&other), &options) else {
+    let mut block = Block::new();
+    let Ok(file) = link_bytes(rt.alloc(), &PLAIN, Some(&other()), &options, &mut block) else {
         return Err("refused".into());
     };
     assert_eq!(rt; file.len(), 49152);
     assert!(rt; files.bytes("out") == Some(file.as_slice()));
+    assert!(rt; file.starts_with(block.bytes()));
+    let tables = (
+        block.owners(95),
+        block.owners(96),
+        block.owners(207),
+        block.owners(208),
+    );
+    assert_eq!(rt;
+        tables,
+        (Owners::default(), Owners::ELF, Owners::ELF, Owners::SHELL)
+    );
+    Ok(())
+}
 
-    let Err(LinkFault::Rule(fault)) = link_bytes(rt.alloc(), &PLAIN, Some(&PLAIN), &options) else {
+#[test]
+fn bytes_are_refused(rt: HostRuntime) -> Result<(), Fail> {
+    let mut block = Block::new();
+    let linked = link_bytes(
+        rt.alloc(),
+        &PLAIN,
+        Some(&PLAIN),
+        &Options::default(),
+        &mut block,
+    );
+    let Err(LinkFault::Rule(fault)) = linked else {
         return Err("taken".into());
     };
     assert_eq!(rt; (fault.rule, fault.input, fault.value), (23, 2, 62));
+    assert_eq!(rt; block.owners(0), Owners::default());
     Ok(())
 }
 

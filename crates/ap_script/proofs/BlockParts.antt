@@ -50,11 +50,16 @@ length-closing number =
     let d = length-delimiter number in
     omega arith
 
-length-script_for : (systems : Systems) (inputs : List Taken) (l : Positions) → length (script_for systems inputs l) ≤ 1006
-length-script_for systems inputs l =
-    length-script systems (header_for X64 inputs l.tables) (header_for A64 inputs l.tables) (header-is X64 inputs l.tables) (header-is A64 inputs l.tables)
+-- the place and the length of the Mach-O header in units of eight bytes
+pub small-units : (inputs : List Taken) (l : Positions) → Fits inputs l → l.mach_at / 8 + l.mach_len / 8 ≤ 2048
+small-units inputs l fits = let mach = fits.mach in omega arith
 
-pub length-text : (systems : Systems) (inputs : List Taken) (l : Positions) → Fits inputs l → length (shell_text systems inputs l) ≤ 4591
+pub length-script_for : (systems : Systems) (inputs : List Taken) (l : Positions) → Fits inputs l → length (script_for systems inputs l) ≤ 1224
+length-script_for systems inputs l fits =
+    length-script systems (header_for X64 inputs l.tables) (header_for A64 inputs l.tables) (l.mach_at / 8) (l.mach_len / 8) (header-is X64 inputs l.tables) (header-is A64 inputs l.tables)
+    (small-units inputs l fits)
+
+pub length-text : (systems : Systems) (inputs : List Taken) (l : Positions) → Fits inputs l → length (shell_text systems inputs l) ≤ 4809
 unfolding shell_text
 length-text systems inputs l fits =
     let k = delimiter_number (body_of inputs l) in
@@ -65,7 +70,7 @@ length-text systems inputs l fits =
     let o = length-opening k in
     let m = length-body inputs l fits in
     let e = length-closing k in
-    let t = length-script_for systems inputs l in
+    let t = length-script_for systems inputs l fits in
     let body = fits.body in
     omega arith
 
@@ -161,7 +166,7 @@ opening-parts : (number : ℕ) (rest : List ℕ) → Holds (opening number ++ re
 unfolding opening
 opening-parts number rest = holds-part [] (codes "jartsr='") (codes "\n" ++ ((zeros 55 ++ (codes "' <<'" ++ (delimiter number ++ codes "'\n"))) ++ rest)) 0 refl
 
-front-parts : (systems : Systems) (inputs : List Taken) (l : Positions) (rest : List ℕ)
+pub front-parts : (systems : Systems) (inputs : List Taken) (l : Positions) (rest : List ℕ)
     → block_of systems inputs l ++ rest ≡ opening (delimiter_number (body_of inputs l)) ++ ((body_of inputs l ++ behind_body systems inputs l) ++ (zeros (BLOCK - WINDOW) ++ rest))
 front-parts systems inputs l rest =
     block-parts systems inputs l rest

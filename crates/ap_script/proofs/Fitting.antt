@@ -11,7 +11,10 @@ use Rattle.ap_check.specs.Machines.{granule_of}
 use Rattle.ap_check.specs.Inputs.{Taken, Meets, AreLoads}
 use Rattle.ap_layout.specs.declared.layout.Area.{Area}
 use Rattle.ap_layout.specs.Areas.{end_from, after, new_areas, ServeAll}
-use Rattle.ap_layout.specs.Positions.{Positions, Fits, FitAll, inputs_of, joined}
+use Rattle.ap_claims.specs.declared.owner.Owner.TheVariants.{Elf}
+use Rattle.ap_layout.specs.Positions.{Positions, Fits, FitAll, AreTables, tables_start, inputs_of, joined}
+use Rattle.ap_script.specs.Tables.{table_text}
+use Rattle.ap_script.specs.Claims.{claim, table_claims}
 use Rattle.ap_script.specs.Places.{Placed}
 
 is-granule : (m : Machine) → IsGranule (granule_of m)
@@ -104,3 +107,16 @@ two-areas [] v w h = absurd (omega arith)
 two-areas (x ∷ []) v w h = absurd (omega arith)
 two-areas (x ∷ y ∷ []) v w h = refl
 two-areas (x ∷ y ∷ z ∷ vs) v w h = absurd (omega arith)
+
+-- the tables of two inputs, claimed one behind the other
+claims-two : (at end : ℕ) (e f : Taken) (areas : List (List Area)) (tables : List ℕ) (a b : List Area) → AreTables at (e ∷ f ∷ []) tables end → areas ≡ a ∷ b ∷ []
+    → claim Elf (get_or tables 0 0) (table_text e a) ∷ claim Elf (get_or tables 1 0) (table_text f b) ∷ [] ≡ table_claims (e ∷ f ∷ []) areas tables
+claims-two at end e f areas [] a b are is = absurd are
+claims-two at end e f areas (t ∷ []) a b are is = absurd are.1
+claims-two at end e f areas (t ∷ u ∷ []) a b are is = rw is refl
+claims-two at end e f areas (t ∷ u ∷ v ∷ more) a b are is = absurd are.1.1
+
+pub two-claims : (e f : Taken) (l : Positions) (a b now later : List Area) (t u : ℕ) → Fits (e ∷ f ∷ []) l → l.areas ≡ a ∷ b ∷ [] → now ≡ a → later ≡ b → t ≡ get_or l.tables 0 0 → u ≡ get_or l.tables 1 0
+    → claim Elf t (table_text e now) ∷ claim Elf u (table_text f later) ∷ [] ≡ table_claims (e ∷ f ∷ []) l.areas l.tables
+two-claims e f l a b now later t u fits is now_is later_is t_is u_is =
+    rw (now_is, later_is, t_is, u_is) (claims-two tables_start l.body_end e f l.areas l.tables a b fits.tables is)

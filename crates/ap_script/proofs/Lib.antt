@@ -12,4 +12,5 @@ pub mod LeastNumbers
 pub mod Digits
 pub mod Entries
 pub mod Fitting
-pub mod Blocks
+pub mod Endings
+pub mod Claimed

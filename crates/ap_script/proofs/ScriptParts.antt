@@ -1,11 +1,14 @@
 -- The parts of the script: how long they are, and where quotes stand in them.
-use Rattle.std.proofs.Common.{◌≡◌, ◌≢◌, inl, inr, ℕ, zero, suc, ◌+◌, ◌*◌, ◌-◌, ◌/◌, ◌%◌, ◌^◌, ◌≤◌, ◌<◌, ◌==◌, ◌&&◌, cond, Bool, true, false, List, [], ◌∷◌, ◌++◌, length, get_or, nat_lt, Option, Some, None, refl, sym, ap, ◌∙◌, arith, length-append, append_assoc, subst}
+use Rattle.std.proofs.Common.{◌≡◌, ◌≢◌, inl, inr, ℕ, zero, suc, ◌+◌, ◌*◌, ◌-◌, ◌/◌, ◌%◌, ◌^◌, ◌≤◌, ◌<◌, ◌==◌, ◌&&◌, not, cond, Bool, true, false, List, [], ◌∷◌, ◌++◌, length, get_or, nat_lt, Option, Some, None, refl, sym, ap, ◌∙◌, arith, length-append, append_assoc, subst}
 use Rattle.std.specs.Prelude.{codes, IfSome}
 use Rattle.std.specs.Int.{byte_at, bytes_low_first}
 use Rattle.std.specs.List.{flat_map}
+use Rattle.std.specs.Option.{is_some}
+use Rattle.std.specs.Fmt.{decimal}
 use Rattle.std.proofs.lemmas.Bool.{cases_lt}
 use Rattle.std.proofs.lemmas.Bool.Decides.{nat_tests}
 use Rattle.std.proofs.lemmas.List.{get_or_append_left, get_or-append_right}
+use Rattle.std.proofs.lemmas.Fmt.{decimal_by_steps, length-decimal-le}
 use Rattle.ap_fields.specs.Fields.{bytes_of, number_at}
 use Rattle.ap_elf.specs.Written.{header_bytes}
 use Rattle.ap_octal.specs.Statement.{is_letter, octal_of, octals_of, statement_of}
@@ -17,7 +20,7 @@ use Rattle.ap_check.specs.Machines.{number_of}
 use Rattle.ap_check.specs.Inputs.{Taken}
 use Rattle.ap_layout.specs.Positions.{entry_count}
 use Rattle.ap_script.specs.Tables.{embedded_header, embedded_bytes}
-use Rattle.ap_script.specs.Script.{script_start, has_system, or_tests, system_line, machine_start, machine_end, machine_lines, script_end, script_of, is_machine, header_for}
+use Rattle.ap_script.specs.Script.{script_start, has_system, or_tests, system_line, dd_line, darwin_x64_lines, darwin_lines, system_lines, machine_start, machine_end, machine_lines, script_end, script_of, is_machine, header_for}
 use Rattle.ap_script.proofs.Quotes.{has_no_quote, no_quote-append}
 use Rattle.ap_script.proofs.Openings.{Marked, marked-append, marked-quiet, marked-statement, Parts, parts-behind, parts-front}
 
@@ -213,16 +216,58 @@ length-machine_lines m (Some header) h =
     let e = length-machine_end in
     omega arith
 
--- the script has at most 1006 bytes
-pub length-script : (systems : Systems) (x y : Option (List ℕ)) → IfSome x (IsHeader X64) → IfSome y (IsHeader A64) → length (script_of systems x y) ≤ 1006
+length-number : (n : ℕ) → n ≤ 2048 → length (decimal n) ≤ 4
+length-number n small = length-decimal-le 4 n (omega arith) (omega arith) (omega arith)
+
+length-dd_line : (skip count : ℕ) → skip + count ≤ 2048 → length (dd_line skip count) ≤ 82
+unfolding dd_line
+length-dd_line skip count small =
+    let end = codes " conv=notrunc 2>/dev/null || exit 123\n" in
+    let a = length-append (decimal skip) (codes " count=" ++ (decimal count ++ end)) in
+    let b = length-append (decimal count) end in
+    let s = length-number skip (omega arith) in
+    let c = length-number count (omega arith) in
+    omega arith
+
+length-darwin_x64 : (skip count : ℕ) → skip + count ≤ 2048 → length (darwin_x64_lines skip count) ≤ 179
+unfolding darwin_x64_lines
+length-darwin_x64 skip count small =
+    let a = length-append (dd_line skip count) (codes "exec \"$t\" \"$@\"\nfi\n") in
+    let d = length-dd_line skip count small in
+    omega arith
+
+length-darwin : (x64 : Bool) (skip count : ℕ) → skip + count ≤ 2048 → length (darwin_lines x64 skip count) ≤ 218
+unfolding darwin_lines
+length-darwin true skip count small =
+    let a = length-append (darwin_x64_lines skip count) (codes "exit 125\nfi\n") in
+    let d = length-darwin_x64 skip count small in
+    omega arith
+length-darwin false skip count small = omega arith
+
+length-chosen : (b : Bool) (n : ℕ) (text : List ℕ) → length text ≤ n → length (cond b text []) ≤ n
+length-chosen true n text h = h
+length-chosen false n text h = omega arith
+
+pub length-system_lines : (systems : Systems) (x : Option (List ℕ)) (skip count : ℕ) → skip + count ≤ 2048 → length (system_lines systems x skip count) ≤ 287
+unfolding system_lines
+length-system_lines systems x skip count small =
+    let darwin = cond (has_system systems 16) (darwin_lines (is_some x) skip count) [] in
+    let a = length-append darwin (system_line systems) in
+    let d = length-chosen (has_system systems 16) 218 (darwin_lines (is_some x) skip count) (length-darwin (is_some x) skip count small) in
+    let l = length-system_line systems in
+    omega arith
+
+-- the script has at most 1224 bytes
+pub length-script : (systems : Systems) (x y : Option (List ℕ)) (skip count : ℕ) → IfSome x (IsHeader X64) → IfSome y (IsHeader A64) → skip + count ≤ 2048 → length (script_of systems x y skip count) ≤ 1224
 unfolding script_of
-length-script systems x y hx hy =
-    let a = length-append script_start (system_line systems ++ (machine_lines X64 x ++ (machine_lines A64 y ++ script_end))) in
-    let b = length-append (system_line systems) (machine_lines X64 x ++ (machine_lines A64 y ++ script_end)) in
+length-script systems x y skip count hx hy small =
+    let lines = system_lines systems x skip count in
+    let a = length-append script_start (lines ++ (machine_lines X64 x ++ (machine_lines A64 y ++ script_end))) in
+    let b = length-append lines (machine_lines X64 x ++ (machine_lines A64 y ++ script_end)) in
     let c = length-append (machine_lines X64 x) (machine_lines A64 y ++ script_end) in
     let d = length-append (machine_lines A64 y) script_end in
     let l1 = length-script_start in
-    let l2 = length-system_line systems in
+    let l2 = length-system_lines systems x skip count small in
     let l3 = length-machine_lines X64 x hx in
     let l4 = length-machine_lines A64 y hy in
     let l5 = length-script_end in
@@ -236,6 +281,43 @@ quiet-script_start = refl
 
 quiet-system_line : (systems : Systems) → has_no_quote (system_line systems) ≡ true
 quiet-system_line systems = ap has_no_quote (line-is systems) ∙ quiet-line (has_system systems 1) (has_system systems 2) (has_system systems 4)
+
+digit-quiet : (x : ℕ) → not (48 + x == 39) ≡ true
+digit-quiet x = grind (arith, nat_tests)
+
+quiet-digit : (x : ℕ) → has_no_quote ((48 + x) ∷ []) ≡ true
+quiet-digit x = rw (digit-quiet x) refl
+
+quiet-number : (n : ℕ) → n ≤ 2048 → has_no_quote (decimal n) ≡ true
+quiet-number n small =
+    decimal_by_steps (λ m digits. has_no_quote digits ≡ true) (λ m low. quiet-digit m)
+    (λ m digits high h. no_quote-append digits ((48 + m % 10) ∷ []) h (quiet-digit (m % 10))) n (omega arith)
+
+quiet-dd_line : (skip count : ℕ) → skip + count ≤ 2048 → has_no_quote (dd_line skip count) ≡ true
+unfolding dd_line
+quiet-dd_line skip count small =
+    let end = codes " conv=notrunc 2>/dev/null || exit 123\n" in
+    no_quote-append (decimal skip) (codes " count=" ++ (decimal count ++ end)) (quiet-number skip (omega arith))
+    (no_quote-append (decimal count) end (quiet-number count (omega arith)) refl)
+
+quiet-darwin_x64 : (skip count : ℕ) → skip + count ≤ 2048 → has_no_quote (darwin_x64_lines skip count) ≡ true
+unfolding darwin_x64_lines
+quiet-darwin_x64 skip count small = no_quote-append (dd_line skip count) (codes "exec \"$t\" \"$@\"\nfi\n") (quiet-dd_line skip count small) refl
+
+quiet-darwin : (x64 : Bool) (skip count : ℕ) → skip + count ≤ 2048 → has_no_quote (darwin_lines x64 skip count) ≡ true
+unfolding darwin_lines
+quiet-darwin true skip count small = no_quote-append (darwin_x64_lines skip count) (codes "exit 125\nfi\n") (quiet-darwin_x64 skip count small) refl
+quiet-darwin false skip count small = refl
+
+quiet-chosen : (b : Bool) (text : List ℕ) → has_no_quote text ≡ true → has_no_quote (cond b text []) ≡ true
+quiet-chosen true text h = h
+quiet-chosen false text h = refl
+
+quiet-system_lines : (systems : Systems) (x : Option (List ℕ)) (skip count : ℕ) → skip + count ≤ 2048 → has_no_quote (system_lines systems x skip count) ≡ true
+unfolding system_lines
+quiet-system_lines systems x skip count small =
+    no_quote-append (cond (has_system systems 16) (darwin_lines (is_some x) skip count) []) (system_line systems)
+    (quiet-chosen (has_system systems 16) (darwin_lines (is_some x) skip count) (quiet-darwin (is_some x) skip count small)) (quiet-system_line systems)
 
 quiet-machine_start : (m : Machine) → has_no_quote (machine_start m) ≡ true
 unfolding machine_start
@@ -275,6 +357,15 @@ starts-system_line : (systems : Systems) (behind : List ℕ) → StartsBare (sys
 unfolding system_line
 starts-system_line systems behind e = omega (arith, e)
 
+starts-chosen : (b x64 : Bool) (systems : Systems) (skip count : ℕ) (behind : List ℕ) → StartsBare ((cond b (darwin_lines x64 skip count) [] ++ system_line systems) ++ behind)
+unfolding darwin_lines
+starts-chosen true x64 systems skip count behind e = omega (arith, e)
+starts-chosen false x64 systems skip count behind e = starts-system_line systems behind e
+
+starts-system_lines : (systems : Systems) (x : Option (List ℕ)) (skip count : ℕ) (behind : List ℕ) → StartsBare (system_lines systems x skip count ++ behind)
+unfolding system_lines
+starts-system_lines systems x skip count behind = starts-chosen (has_system systems 16) (is_some x) systems skip count behind
+
 -- where there is a header, its statement is marked
 abbrev pub MarksLines : (ℕ → Type 0) → ℕ → Machine → Option (List ℕ) → Type 0
 MarksLines P at m None = Unit {0}
@@ -290,60 +381,68 @@ marked-lines P at m (Some header) h =
     (starts-statement header machine_end)
 
 -- where the lines for machines start in a script that starts at a place
-abbrev pub lines_from : Systems → ℕ → ℕ
-lines_from systems at = at + length script_start + length (system_line systems)
+abbrev pub lines_from : Systems → Option (List ℕ) → ℕ → ℕ → ℕ → ℕ
+lines_from systems x skip count at = at + length script_start + length (system_lines systems x skip count)
 
 -- the script, and a text without quotes behind it
-pub marked-script : (P : ℕ → Type 0) (at : ℕ) (systems : Systems) (x y : Option (List ℕ)) (behind : List ℕ) → has_no_quote behind ≡ true
-    → MarksLines P (lines_from systems at) X64 x → MarksLines P (lines_from systems at + length (machine_lines X64 x)) A64 y → Marked P at (script_of systems x y ++ behind)
+pub marked-script : (P : ℕ → Type 0) (at : ℕ) (systems : Systems) (x y : Option (List ℕ)) (skip count : ℕ) (behind : List ℕ) → skip + count ≤ 2048 → has_no_quote behind ≡ true
+    → MarksLines P (lines_from systems x skip count at) X64 x → MarksLines P (lines_from systems x skip count at + length (machine_lines X64 x)) A64 y → Marked P at (script_of systems x y skip count ++ behind)
 unfolding script_of
-marked-script P at systems x y behind quiet hx hy =
-    let lines = lines_from systems at in
+marked-script P at systems x y skip count behind small quiet hx hy =
+    let test = system_lines systems x skip count in
+    let lines = lines_from systems x skip count at in
     let end = script_end ++ behind in
-    let parts : script_of systems x y ++ behind ≡ script_start ++ (system_line systems ++ (machine_lines X64 x ++ (machine_lines A64 y ++ end))) =
-    append_assoc script_start (system_line systems ++ (machine_lines X64 x ++ (machine_lines A64 y ++ script_end))) behind
+    let parts : script_of systems x y skip count ++ behind ≡ script_start ++ (test ++ (machine_lines X64 x ++ (machine_lines A64 y ++ end))) =
+    append_assoc script_start (test ++ (machine_lines X64 x ++ (machine_lines A64 y ++ script_end))) behind
     ∙ ap (λ r. script_start ++ r)
-    (append_assoc (system_line systems) (machine_lines X64 x ++ (machine_lines A64 y ++ script_end)) behind
-    ∙ ap (λ r. system_line systems ++ r)
+    (append_assoc test (machine_lines X64 x ++ (machine_lines A64 y ++ script_end)) behind
+    ∙ ap (λ r. test ++ r)
     (append_assoc (machine_lines X64 x) (machine_lines A64 y ++ script_end) behind
     ∙ ap (λ r. machine_lines X64 x ++ r) (append_assoc (machine_lines A64 y) script_end behind))) in
     subst (Marked P at) (sym parts)
-    (marked-append P at script_start (system_line systems ++ (machine_lines X64 x ++ (machine_lines A64 y ++ end))) (marked-quiet P at script_start quiet-script_start)
-    (marked-append P (at + length script_start) (system_line systems) (machine_lines X64 x ++ (machine_lines A64 y ++ end))
-    (marked-quiet P (at + length script_start) (system_line systems) (quiet-system_line systems))
+    (marked-append P at script_start (test ++ (machine_lines X64 x ++ (machine_lines A64 y ++ end))) (marked-quiet P at script_start quiet-script_start)
+    (marked-append P (at + length script_start) test (machine_lines X64 x ++ (machine_lines A64 y ++ end))
+    (marked-quiet P (at + length script_start) test (quiet-system_lines systems x skip count small))
     (marked-append P lines (machine_lines X64 x) (machine_lines A64 y ++ end) (marked-lines P lines X64 x hx)
     (marked-append P (lines + length (machine_lines X64 x)) (machine_lines A64 y) end (marked-lines P (lines + length (machine_lines X64 x)) A64 y hy)
     (marked-quiet P (lines + length (machine_lines X64 x) + length (machine_lines A64 y)) end (no_quote-append script_end behind quiet-script_end quiet))
     (starts-script_end behind))
     (starts-lines A64 y end (starts-script_end behind)))
     (starts-lines X64 x (machine_lines A64 y ++ end) (starts-lines A64 y end (starts-script_end behind))))
-    (starts-system_line systems (machine_lines X64 x ++ (machine_lines A64 y ++ end))))
+    (starts-system_lines systems x skip count (machine_lines X64 x ++ (machine_lines A64 y ++ end))))
 
 -- ---- where the statements stand
+
+-- a place in the script, so far behind the lines that test the system
+abbrev pub place_behind : Systems → Option (List ℕ) → ℕ → ℕ → ℕ → ℕ
+place_behind systems x skip count far = length script_start + (length (system_lines systems x skip count) + far)
 
 parts-lines : (m : Machine) (header : List ℕ) → Parts (machine_lines m (Some header)) (length (machine_start m)) header
 parts-lines m header = record { front = machine_start m; behind = machine_end; long = refl; whole = refl }
 
-pub parts-x64 : (systems : Systems) (header : List ℕ) (y : Option (List ℕ)) → Parts (script_of systems (Some header) y) (length script_start + (length (system_line systems) + length (machine_start X64))) header
+pub parts-x64 : (systems : Systems) (header : List ℕ) (y : Option (List ℕ)) (skip count : ℕ)
+    → Parts (script_of systems (Some header) y skip count) (place_behind systems (Some header) skip count (length (machine_start X64))) header
 unfolding script_of
-parts-x64 systems header y =
+parts-x64 systems header y skip count =
+    let test = system_lines systems (Some header) skip count in
     let rest = machine_lines A64 y ++ script_end in
     let place : ℕ = length (machine_start X64) in
-    parts-behind script_start (system_line systems ++ (machine_lines X64 (Some header) ++ rest)) (length (system_line systems) + place) header
-    (parts-behind (system_line systems) (machine_lines X64 (Some header) ++ rest) place header
+    parts-behind script_start (test ++ (machine_lines X64 (Some header) ++ rest)) (length test + place) header
+    (parts-behind test (machine_lines X64 (Some header) ++ rest) place header
     (parts-front (machine_lines X64 (Some header)) rest place header (parts-lines X64 header)))
 
-pub parts-a64 : (systems : Systems) (x : Option (List ℕ)) (header : List ℕ)
-    → Parts (script_of systems x (Some header)) (length script_start + (length (system_line systems) + (length (machine_lines X64 x) + length (machine_start A64)))) header
+pub parts-a64 : (systems : Systems) (x : Option (List ℕ)) (header : List ℕ) (skip count : ℕ)
+    → Parts (script_of systems x (Some header) skip count) (place_behind systems x skip count (length (machine_lines X64 x) + length (machine_start A64))) header
 unfolding script_of
-parts-a64 systems x header =
+parts-a64 systems x header skip count =
+    let test = system_lines systems x skip count in
     let rest = machine_lines A64 (Some header) ++ script_end in
     let place : ℕ = length (machine_start A64) in
-    parts-behind script_start (system_line systems ++ (machine_lines X64 x ++ rest)) (length (system_line systems) + (length (machine_lines X64 x) + place)) header
-    (parts-behind (system_line systems) (machine_lines X64 x ++ rest) (length (machine_lines X64 x) + place) header
+    parts-behind script_start (test ++ (machine_lines X64 x ++ rest)) (length test + (length (machine_lines X64 x) + place)) header
+    (parts-behind test (machine_lines X64 x ++ rest) (length (machine_lines X64 x) + place) header
     (parts-behind (machine_lines X64 x) rest place header
     (parts-front (machine_lines A64 (Some header)) script_end place header (parts-lines A64 header))))
 
-pub starts-script : (systems : Systems) (x y : Option (List ℕ)) (behind : List ℕ) → StartsBare (script_of systems x y ++ behind)
+pub starts-script : (systems : Systems) (x y : Option (List ℕ)) (skip count : ℕ) (behind : List ℕ) → StartsBare (script_of systems x y skip count ++ behind)
 unfolding script_of script_start
-starts-script systems x y behind e = omega (arith, e)
+starts-script systems x y skip count behind e = omega (arith, e)

@@ -1,5 +1,5 @@
 -- `printf '` stands in the window of a linked file where the script has its statements, and nowhere else.
-use Rattle.std.proofs.Common.{◌≡◌, ◌⊎◌, inl, inr, ℕ, zero, suc, ◌+◌, ◌-◌, ◌≤◌, ◌<◌, List, [], ◌∷◌, ◌++◌, length, take, drop, get_or, Option, Some, None, refl, sym, ap, ◌∙◌, arith, length-append, append_assoc, subst}
+use Rattle.std.proofs.Common.{◌≡◌, ◌⊎◌, inl, inr, ℕ, zero, suc, ◌+◌, ◌-◌, ◌/◌, ◌≤◌, ◌<◌, List, [], ◌∷◌, ◌++◌, length, take, drop, get_or, Option, Some, None, refl, sym, ap, ◌∙◌, arith, length-append, append_assoc, subst}
 use Rattle.std.specs.Prelude.{codes, All, Contains, ◌↔◌, slice_range}
 use Rattle.std.proofs.Math.Seq.{drop-append_seam}
 use Rattle.std.proofs.lemmas.List.{get_or_append_left, get_or-append_right, take_all, take-append-le}
@@ -14,15 +14,15 @@ use Rattle.ap_check.specs.declared.machine.Machine.{Machine}
 use Rattle.ap_check.specs.declared.machine.Machine.TheVariants.{X64, A64}
 use Rattle.ap_check.specs.Inputs.{Taken, Meets}
 use Rattle.ap_layout.specs.Positions.{Positions, Fits}
-use Rattle.ap_script.specs.Script.{script_start, system_line, machine_start, machine_lines, script_of, header_for}
+use Rattle.ap_script.specs.Script.{machine_start, machine_lines, script_of, header_for}
 use Rattle.ap_script.specs.Delimiter.{delimiter_number}
 use Rattle.ap_script.specs.Blocks.{opening, body_of, closing, script_for, shell_text, spaces, block_of}
 use Rattle.ap_script.specs.Stands.{machines_start, statement_place, place_if, statement_places}
 use Rattle.ap_script.proofs.Quotes.{has_no_quote-says, bare-no_quote, bare-octals, no_quote-spaces}
 use Rattle.ap_script.proofs.Openings.{word, holds-cut, not-in-zeros, apart-zero, apart-newline, parted, Marked, marked-append, marked-quiet, marked-clear, marked-holds, Parts, parts-behind, parts-front, parts-holds}
-use Rattle.ap_script.proofs.ScriptParts.{MarksLines, lines_from, marked-script, starts-script, parts-x64, parts-a64, IsHeader, length-statement}
+use Rattle.ap_script.proofs.ScriptParts.{MarksLines, lines_from, place_behind, marked-script, starts-script, parts-x64, parts-a64, IsHeader, length-statement}
 use Rattle.ap_script.proofs.TableZeros.{body-zeros}
-use Rattle.ap_script.proofs.BlockParts.{length-opening, length-body, length-closing, window_text, length-window, block-parts, window-parts, behind_body, clear-opening, quiet-closing, starts-closing, starts-body}
+use Rattle.ap_script.proofs.BlockParts.{small-units, length-opening, length-body, length-closing, window_text, length-window, block-parts, window-parts, behind_body, clear-opening, quiet-closing, starts-closing, starts-body}
 
 -- ---- the list of places
 
@@ -70,21 +70,24 @@ contained (Some a) (Some b) start k (suc (suc i), low, is) = absurd (omega (arit
 
 -- the parts of the window: the opening, the body, the delimiter's line with the script and the spaces behind it
 marked-behind : (systems : Systems) (inputs : List Taken) (l : Positions) → Fits inputs l
-    → Marked (IsBlank (header_for X64 inputs l.tables) (header_for A64 inputs l.tables) (machines_start systems l)) l.body_end (behind_body systems inputs l)
+    → Marked (IsBlank (header_for X64 inputs l.tables) (header_for A64 inputs l.tables) (machines_start systems inputs l)) l.body_end (behind_body systems inputs l)
 marked-behind systems inputs l fits =
     let x = header_for X64 inputs l.tables in
     let y = header_for A64 inputs l.tables in
-    let start : ℕ = machines_start systems l in
+    let start : ℕ = machines_start systems inputs l in
     let number = delimiter_number (body_of inputs l) in
     let line = length-closing number in
     let fill = spaces (WINDOW - length (shell_text systems inputs l)) in
+    let skip : ℕ = l.mach_at / 8 in
+    let count : ℕ = l.mach_len / 8 in
     let at : ℕ = l.body_end + length (closing number) in
-    let same : lines_from systems at ≡ start = omega arith in
-    marked-append (IsBlank x y start) l.body_end (closing number) (script_of systems x y ++ fill)
+    let lines : ℕ = lines_from systems x skip count at in
+    let same : lines ≡ start = omega arith in
+    marked-append (IsBlank x y start) l.body_end (closing number) (script_of systems x y skip count ++ fill)
     (marked-quiet (IsBlank x y start) l.body_end (closing number) (quiet-closing number))
-    (marked-script (IsBlank x y start) at systems x y fill (no_quote-spaces (WINDOW - length (shell_text systems inputs l)))
-    (marks-x64 x y start (lines_from systems at) same) (marks-a64 x y start (lines_from systems at) same))
-    (starts-script systems x y fill)
+    (marked-script (IsBlank x y start) at systems x y skip count fill (small-units inputs l fits) (no_quote-spaces (WINDOW - length (shell_text systems inputs l)))
+    (marks-x64 x y start lines same) (marks-a64 x y start lines same))
+    (starts-script systems x y skip count fill)
 
 none-opening : (number k : ℕ) → Holds (opening number) k word → ⊥
 none-opening number k h = marked-holds (λ i. ⊥) 0 (opening number) k (marked-clear (λ i. ⊥) 0 (opening number) (clear-opening number)) h
@@ -103,7 +106,7 @@ holds-places systems inputs l k meets fits h =
         | inl inside ↦ absurd (not-in-zeros body (k - length (opening number)) (body-zeros inputs l meets fits) inside)
         | inr (beyond, last) ↦
             (let i : ℕ = k - length (opening number) - length body in
-            marked-holds (IsBlank (header_for X64 inputs l.tables) (header_for A64 inputs l.tables) (machines_start systems l)) l.body_end behind i
+            marked-holds (IsBlank (header_for X64 inputs l.tables) (header_for A64 inputs l.tables) (machines_start systems inputs l)) l.body_end behind i
             (marked-behind systems inputs l fits) last k (omega arith))
       ]
     ]
@@ -117,14 +120,15 @@ opens-places systems inputs l rest k meets fits o =
 
 -- ---- there
 
-script-x64 : (systems : Systems) (x y : Option (List ℕ)) (header : List ℕ) → x ≡ Some header → Parts (script_of systems x y) (length script_start + (length (system_line systems) + length (machine_start X64))) header
-script-x64 systems x y header is =
-    subst (λ o. Parts (script_of systems o y) (length script_start + (length (system_line systems) + length (machine_start X64))) header) (sym is) (parts-x64 systems header y)
+script-x64 : (systems : Systems) (x y : Option (List ℕ)) (skip count : ℕ) (header : List ℕ) → x ≡ Some header
+    → Parts (script_of systems x y skip count) (place_behind systems x skip count (length (machine_start X64))) header
+script-x64 systems x y skip count header is =
+    subst (λ o. Parts (script_of systems o y skip count) (place_behind systems o skip count (length (machine_start X64))) header) (sym is) (parts-x64 systems header y skip count)
 
-script-a64 : (systems : Systems) (x y : Option (List ℕ)) (header : List ℕ) → y ≡ Some header
-    → Parts (script_of systems x y) (length script_start + (length (system_line systems) + (length (machine_lines X64 x) + length (machine_start A64)))) header
-script-a64 systems x y header is =
-    subst (λ o. Parts (script_of systems x o) (length script_start + (length (system_line systems) + (length (machine_lines X64 x) + length (machine_start A64)))) header) (sym is) (parts-a64 systems x header)
+script-a64 : (systems : Systems) (x y : Option (List ℕ)) (skip count : ℕ) (header : List ℕ) → y ≡ Some header
+    → Parts (script_of systems x y skip count) (place_behind systems x skip count (length (machine_lines X64 x) + length (machine_start A64))) header
+script-a64 systems x y skip count header is =
+    subst (λ o. Parts (script_of systems x o skip count) (place_behind systems x skip count (length (machine_lines X64 x) + length (machine_start A64))) header) (sym is) (parts-a64 systems x header skip count)
 
 parts-script : (systems : Systems) (inputs : List Taken) (l : Positions) (place : ℕ) (header : List ℕ) → Fits inputs l → Parts (script_for systems inputs l) place header
     → Parts (window_text systems inputs l) (l.body_end + (17 + place)) header
@@ -146,15 +150,17 @@ parts-script systems inputs l place header fits p =
 pub parts-window : (systems : Systems) (inputs : List Taken) (l : Positions) (m : Machine) (header : List ℕ) → Fits inputs l → header_for m inputs l.tables ≡ Some header
     → Parts (window_text systems inputs l) (statement_place systems inputs l m) header
 parts-window systems inputs l X64 header fits is =
-    let place : ℕ = length script_start + (length (system_line systems) + length (machine_start X64)) in
+    let x = header_for X64 inputs l.tables in
+    let place : ℕ = place_behind systems x (l.mach_at / 8) (l.mach_len / 8) (length (machine_start X64)) in
     let same : l.body_end + (17 + place) ≡ statement_place systems inputs l X64 = omega arith in
     subst (λ n. Parts (window_text systems inputs l) n header) same
-    (parts-script systems inputs l place header fits (script-x64 systems (header_for X64 inputs l.tables) (header_for A64 inputs l.tables) header is))
+    (parts-script systems inputs l place header fits (script-x64 systems x (header_for A64 inputs l.tables) (l.mach_at / 8) (l.mach_len / 8) header is))
 parts-window systems inputs l A64 header fits is =
-    let place : ℕ = length script_start + (length (system_line systems) + (length (machine_lines X64 (header_for X64 inputs l.tables)) + length (machine_start A64))) in
+    let x = header_for X64 inputs l.tables in
+    let place : ℕ = place_behind systems x (l.mach_at / 8) (l.mach_len / 8) (length (machine_lines X64 x) + length (machine_start A64)) in
     let same : l.body_end + (17 + place) ≡ statement_place systems inputs l A64 = omega arith in
     subst (λ n. Parts (window_text systems inputs l) n header) same
-    (parts-script systems inputs l place header fits (script-a64 systems (header_for X64 inputs l.tables) (header_for A64 inputs l.tables) header is))
+    (parts-script systems inputs l place header fits (script-a64 systems x (header_for A64 inputs l.tables) (l.mach_at / 8) (l.mach_len / 8) header is))
 
 pub parts-block : (systems : Systems) (inputs : List Taken) (l : Positions) (rest : List ℕ) (m : Machine) (header : List ℕ) → Fits inputs l → header_for m inputs l.tables ≡ Some header
     → Parts (block_of systems inputs l ++ rest) (statement_place systems inputs l m) header
@@ -268,7 +274,7 @@ opens-block systems inputs l rest m header fits is =
 
 places-open : (systems : Systems) (inputs : List Taken) (l : Positions) (rest : List ℕ) (k : ℕ) → Fits inputs l → Contains (statement_places systems inputs l) k → Opens (block_of systems inputs l ++ rest) k
 places-open systems inputs l rest k fits c =
-    elim (contained (header_for X64 inputs l.tables) (header_for A64 inputs l.tables) (machines_start systems l) k c) [
+    elim (contained (header_for X64 inputs l.tables) (header_for A64 inputs l.tables) (machines_start systems inputs l) k c) [
       | inl (header, is, at) ↦ subst (Opens (block_of systems inputs l ++ rest)) (sym at) (opens-block systems inputs l rest X64 header fits is)
       | inr (header, is, at) ↦ subst (Opens (block_of systems inputs l ++ rest)) (sym at) (opens-block systems inputs l rest A64 header fits is)
     ]

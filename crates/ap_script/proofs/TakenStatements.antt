@@ -57,7 +57,7 @@ before-x64 : (systems : Systems) (inputs : List Taken) (l : Positions) (rest hea
 before-x64 systems inputs l rest header j meets fits is low =
     let ascend = places-ascend systems inputs l header is in
     header_at-closed 62 (block_of systems inputs l ++ rest) j (λ o.
-    elim (contained (header_for X64 inputs l.tables) (header_for A64 inputs l.tables) (machines_start systems l) j (opens-places systems inputs l rest j meets fits o)) [
+    elim (contained (header_for X64 inputs l.tables) (header_for A64 inputs l.tables) (machines_start systems inputs l) j (opens-places systems inputs l rest j meets fits o)) [
       | inl (h, some, at) ↦ omega arith
       | inr (h, some, at) ↦ omega arith
     ])
@@ -69,14 +69,14 @@ before-a64 systems inputs l rest j meets fits low =
     let file = block_of systems inputs l ++ rest in
     elim (which (header_for X64 inputs l.tables)) [
       | inr none ↦ header_at-closed 183 file j (λ o.
-          elim (contained (header_for X64 inputs l.tables) (header_for A64 inputs l.tables) (machines_start systems l) j (opens-places systems inputs l rest j meets fits o)) [
+          elim (contained (header_for X64 inputs l.tables) (header_for A64 inputs l.tables) (machines_start systems inputs l) j (opens-places systems inputs l rest j meets fits o)) [
             | inl (h, some, at) ↦ none h some
             | inr (h, some, at) ↦ omega arith
           ])
       | inl (first, is) ↦ elim (same_or j (statement_place systems inputs l X64)) [
         | inl here ↦ ap (header_at 183 (take WINDOW file)) here ∙ header-there systems inputs l rest 183 X64 first fits is
         | inr other ↦ header_at-closed 183 file j (λ o.
-            elim (contained (header_for X64 inputs l.tables) (header_for A64 inputs l.tables) (machines_start systems l) j (opens-places systems inputs l rest j meets fits o)) [
+            elim (contained (header_for X64 inputs l.tables) (header_for A64 inputs l.tables) (machines_start systems inputs l) j (opens-places systems inputs l rest j meets fits o)) [
               | inl (h, some, at) ↦ other at
               | inr (h, some, at) ↦ omega arith
             ])
@@ -209,7 +209,7 @@ nothing-at : (systems : Systems) (inputs : List Taken) (l : Positions) (rest : L
 nothing-at systems inputs l rest n j meets fits apart =
     elim (cases_Bool (occurs_at (take WINDOW (block_of systems inputs l ++ rest)) (codes "printf '") j)) [
       | inl there ↦
-          elim (contained (header_for X64 inputs l.tables) (header_for A64 inputs l.tables) (machines_start systems l) j
+          elim (contained (header_for X64 inputs l.tables) (header_for A64 inputs l.tables) (machines_start systems inputs l) j
           (opens-places systems inputs l rest j meets fits (window-opens (block_of systems inputs l ++ rest) j (OccursAt-true (take WINDOW (block_of systems inputs l ++ rest)) (codes "printf '") j there)))) [
             | inl (h, some, at) ↦ nothing-there systems inputs l rest n X64 h j fits apart some at
             | inr (h, some, at) ↦ nothing-there systems inputs l rest n A64 h j fits apart some at
@@ -238,7 +238,7 @@ places-order-by (Some header) start =
 
 -- they ascend, whatever inputs there are
 pub places-order : (systems : Systems) (inputs : List Taken) (l : Positions) → statement_place systems inputs l X64 < statement_place systems inputs l A64
-places-order systems inputs l = places-order-by (header_for X64 inputs l.tables) (machines_start systems l)
+places-order systems inputs l = places-order-by (header_for X64 inputs l.tables) (machines_start systems inputs l)
 
 -- ---- what the statement of an input embeds
 

@@ -1,6 +1,6 @@
 -- The block of a linked file, its first 16384 bytes: a shell script that holds the program header tables as the body of a
 -- here-document, and an empty second half.
-use Rattle.std.specs.Prelude.{ℕ, ◌-◌, List, [], ◌∷◌, ◌++◌, length, replicate, codes}
+use Rattle.std.specs.Prelude.{ℕ, ◌-◌, ◌/◌, List, [], ◌∷◌, ◌++◌, length, replicate, codes}
 use Rattle.ap_fields.specs.declared.sizes.TheConstants.{BLOCK, WINDOW}
 use Rattle.ap_fields.specs.Bytes.{zeros}
 use Rattle.ap_check.specs.declared.machine.Machine.TheVariants.{X64, A64}
@@ -12,9 +12,21 @@ use Rattle.ap_script.specs.Delimiter.{delimiter, delimiter_number}
 use Rattle.ap_script.specs.Tables.{table_text}
 use Rattle.ap_script.specs.Script.{script_of, header_for}
 
+-- what an APE loader looks for at a file's start
+abbrev pub magic : List ℕ
+magic = codes "jartsr='"
+
+-- the line that the magic begins
+abbrev pub magic_line : List ℕ
+magic_line = codes "jartsr='\n"
+
+-- the end of the line that opens the here-document
+abbrev pub opening_line : ℕ → List ℕ
+opening_line number = codes "' <<'" ++ (delimiter number ++ codes "'\n")
+
 -- bytes 0 to 85: an assignment, whose text holds zeros, with a here-document behind it
 unfoldable pub opening : ℕ → List ℕ
-opening number = codes "jartsr='\n" ++ (zeros 55 ++ (codes "' <<'" ++ (delimiter number ++ codes "'\n")))
+opening number = magic_line ++ (zeros 55 ++ opening_line number)
 
 -- the program header tables of some inputs, one behind the other
 abbrev pub tables_text : List Taken → List (List Area) → List ℕ
@@ -30,9 +42,9 @@ body_of inputs l = zeros 10 ++ tables_text inputs l.areas
 unfoldable pub closing : ℕ → List ℕ
 closing number = codes "\n" ++ (delimiter number ++ codes "\n")
 
--- the script, by the inputs
+-- the script, by the inputs and the positions
 abbrev pub script_for : Systems → List Taken → Positions → List ℕ
-script_for systems inputs l = script_of systems (header_for X64 inputs l.tables) (header_for A64 inputs l.tables)
+script_for systems inputs l = script_of systems (header_for X64 inputs l.tables) (header_for A64 inputs l.tables) (l.mach_at / 8) (l.mach_len / 8)
 
 unfoldable pub shell_text : Systems → List Taken → Positions → List ℕ
 shell_text systems inputs l =
@@ -41,6 +53,11 @@ shell_text systems inputs l =
 
 unfoldable pub spaces : ℕ → List ℕ
 spaces n = replicate n 32
+
+-- what stands in the first half behind the body: the delimiter's line, the script, and spaces
+abbrev pub ending_of : Systems → List Taken → Positions → List ℕ
+ending_of systems inputs l =
+    closing (delimiter_number (body_of inputs l)) ++ (script_for systems inputs l ++ spaces (WINDOW - length (shell_text systems inputs l)))
 
 -- the first half ends in spaces, and the second half is for a header that other systems read
 unfoldable pub block_of : Systems → List Taken → Positions → List ℕ

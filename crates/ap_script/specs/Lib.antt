@@ -5,3 +5,4 @@ pub mod Jobs
 pub mod Places
 pub mod Blocks
 pub mod Stands
+pub mod Claims

@@ -1,7 +1,10 @@
 -- The script of a linked file (POSIX.1 Shell Command Language): it hands the file to an APE loader where the system has one,
--- and else copies it, writes the embedded ELF header for the machine over the copy's first bytes and starts the copy. It is a
--- function of the systems that were chosen and of the embedded header of each machine that an input is for.
+-- and else copies it, writes the header for the system and the machine over the copy's first bytes and starts the copy. It is a
+-- function of the systems that were chosen, of the embedded ELF header of each machine that an input is for, and of the place
+-- and the length of the Mach-O header, each in units of eight bytes.
 use Rattle.std.specs.Prelude.{ℕ, ◌==◌, not, if◌then◌else◌, Bool, true, false, List, [], ◌∷◌, ◌++◌, codes, Option, Some, None, bit_and}
+use Rattle.std.specs.Option.{is_some}
+use Rattle.std.specs.Fmt.{decimal}
 use Rattle.ap_octal.specs.Statement.{statement_of}
 use Rattle.ap_check.specs.declared.options.Systems.{Systems}
 use Rattle.ap_check.specs.declared.machine.Machine.{Machine}
@@ -39,9 +42,29 @@ or_tests [] = codes "[ 0 = 1 ]"
 or_tests (name ∷ []) = kernel_test name
 or_tests (name ∷ next ∷ names) = kernel_test name ++ (codes " || " ++ or_tests (next ∷ names))
 
--- the line that tests the system
+-- the line that tests for the systems whose kernels run ELF files
 unfoldable pub system_line : Systems → List ℕ
 system_line systems = codes "if " ++ (or_tests (kernels_of systems) ++ codes "; then\n")
+
+-- the line that writes so many units of eight bytes of the copy, from behind those that are skipped, over its first bytes
+unfoldable pub dd_line : ℕ → ℕ → List ℕ
+dd_line skip count =
+    codes "dd if=\"$t\" of=\"$t\" bs=8 skip=" ++ (decimal skip ++ (codes " count=" ++ (decimal count ++ codes " conv=notrunc 2>/dev/null || exit 123\n")))
+
+-- the lines for macOS on x86-64
+unfoldable pub darwin_x64_lines : ℕ → ℕ → List ℕ
+darwin_x64_lines skip count =
+    codes "if [ \"$m\" = x86_64 ]; then\ncp \"$0\" \"$t\" || exit 121\nchmod 700 \"$t\" || exit 122\n"
+    ++ (dd_line skip count ++ codes "exec \"$t\" \"$@\"\nfi\n")
+
+-- the lines for macOS, with those for x86-64 where there is an input for it
+unfoldable pub darwin_lines : Bool → ℕ → ℕ → List ℕ
+darwin_lines x64 skip count =
+    codes "if [ \"$s\" = Darwin ]; then\n" ++ ((if x64 then darwin_x64_lines skip count else []) ++ codes "exit 125\nfi\n")
+
+-- the lines that test the system: those for macOS where it was chosen, and the one for the systems that run ELF files
+unfoldable pub system_lines : Systems → Option (List ℕ) → ℕ → ℕ → List ℕ
+system_lines systems x64 skip count = (if has_system systems 16 then darwin_lines (is_some x64) skip count else []) ++ system_line systems
 
 -- the names that `uname -m` answers on a machine
 abbrev pub machine_names : Machine → List ℕ × List ℕ
@@ -65,9 +88,9 @@ machine_lines m (Some header) = machine_start m ++ (statement_of header ++ machi
 unfoldable pub script_end : List ℕ
 script_end = codes "fi\nexit 126\n"
 
-unfoldable pub script_of : Systems → Option (List ℕ) → Option (List ℕ) → List ℕ
-script_of systems x64 a64 =
-    script_start ++ (system_line systems ++ (machine_lines X64 x64 ++ (machine_lines A64 a64 ++ script_end)))
+unfoldable pub script_of : Systems → Option (List ℕ) → Option (List ℕ) → ℕ → ℕ → List ℕ
+script_of systems x64 a64 skip count =
+    script_start ++ (system_lines systems x64 skip count ++ (machine_lines X64 x64 ++ (machine_lines A64 a64 ++ script_end)))
 
 -- the embedded header of the input for a machine, by the inputs and the places of their tables
 abbrev pub is_machine : Machine → Machine → Bool

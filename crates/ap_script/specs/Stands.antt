@@ -1,5 +1,5 @@
 -- What stands in the block of a linked file, and where.
-use Rattle.std.specs.Prelude.{◌≡◌, ◌≢◌, ◌⊎◌, ℕ, ◌+◌, ◌<◌, ◌≤◌, List, [], ◌∷◌, ◌++◌, length, All, slice_index, Option, Some, None}
+use Rattle.std.specs.Prelude.{◌≡◌, ◌≢◌, ◌⊎◌, ℕ, ◌+◌, ◌/◌, ◌<◌, ◌≤◌, List, [], ◌∷◌, ◌++◌, length, All, slice_index, Option, Some, None}
 use Rattle.ap_fields.specs.Bytes.{Holds}
 use Rattle.ap_check.specs.declared.machine.Machine.{Machine}
 use Rattle.ap_check.specs.declared.machine.Machine.TheVariants.{X64, A64}
@@ -8,7 +8,7 @@ use Rattle.ap_check.specs.Inputs.{Taken}
 use Rattle.ap_layout.specs.declared.layout.Area.{Area}
 use Rattle.ap_layout.specs.Positions.{Positions}
 use Rattle.ap_script.specs.Tables.{table_text}
-use Rattle.ap_script.specs.Script.{script_start, system_line, machine_start, machine_lines, header_for}
+use Rattle.ap_script.specs.Script.{script_start, system_lines, machine_start, machine_lines, header_for}
 
 -- no two inputs are for the same machine
 abbrev pub MachinesDiffer : List Taken → Type 0
@@ -37,13 +37,14 @@ abbrev pub HasPart : List ℕ → List ℕ → Type 0
 HasPart text part = (front : List ℕ) × (behind : List ℕ) × (text ≡ front ++ (part ++ behind))
 
 -- where the lines for machines begin: behind the body, the delimiter's line of 17 bytes and the script's first lines
-abbrev pub machines_start : Systems → Positions → ℕ
-machines_start systems l = l.body_end + (17 + (length script_start + length (system_line systems)))
+abbrev pub machines_start : Systems → List Taken → Positions → ℕ
+machines_start systems inputs l =
+    l.body_end + (17 + (length script_start + length (system_lines systems (header_for X64 inputs l.tables) (l.mach_at / 8) (l.mach_len / 8))))
 
 -- where the statement for a machine stands
 abbrev pub statement_place : Systems → List Taken → Positions → Machine → ℕ
-statement_place systems inputs l X64 = machines_start systems l + length (machine_start X64)
-statement_place systems inputs l A64 = machines_start systems l + (length (machine_lines X64 (header_for X64 inputs l.tables)) + length (machine_start A64))
+statement_place systems inputs l X64 = machines_start systems inputs l + length (machine_start X64)
+statement_place systems inputs l A64 = machines_start systems inputs l + (length (machine_lines X64 (header_for X64 inputs l.tables)) + length (machine_start A64))
 
 -- a place, where there is a header
 abbrev pub place_if : Option (List ℕ) → ℕ → List ℕ

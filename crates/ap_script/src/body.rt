@@ -41,7 +41,7 @@ fn push_zeros(out: &mut Text)
 }
 
 /// Appends the program header table of an input whose loads have these areas.
-fn push_table(out: &mut Text, input: &Input, areas: &[Area])
+pub(crate) fn push_table(out: &mut Text, input: &Input, areas: &[Area])
     requires room { length out.old.items + 1736 ≤ WINDOW }
     requires same { length areas.now ≡ length input.now.loads }
     requires places { All (λ x. x.file < 2 ^ 31) areas.now }

@@ -15,6 +15,7 @@ ghost use Rattle.ap_layout.specs.Positions.{Positions, Fits, table_length};
 ghost use Rattle.ap_script.specs.Tables.{embedded_bytes, table_text};
 ghost use Rattle.ap_script.specs.Delimiter.{delimiter, delimiter_number, without_nul};
 ghost use Rattle.ap_script.specs.Blocks.{body_of, shell_text, block_of};
+ghost use Rattle.ap_script.specs.Claims.{BlockIsClaimed};
 ghost use Rattle.ap_script.specs.Stands.{MachinesDiffer, HasTable, HoldsTables, HasZeros, HasPart, statement_place, statement_places};
 
 /// An embedded header has 64 bytes, and a program header table 56 for each of its entries.
@@ -28,6 +29,11 @@ pub fn blocks_have_lengths()
     ensures body { (inputs : List Taken) (l : Positions) → Fits inputs l → 86 + length (body_of inputs l) ≡ l.body_end }
     ensures text { (systems : Systems) (inputs : List Taken) (l : Positions) → Fits inputs l → length (shell_text systems inputs l) ≤ WINDOW }
     ensures block { (systems : Systems) (inputs : List Taken) (l : Positions) → Fits inputs l → length (block_of systems inputs l) ≡ BLOCK }
+{}
+
+/// The block is the file of its claims: each claim's bytes stand at its place, and 0 where no claim is.
+pub fn blocks_are_claimed()
+    ensures { BlockIsClaimed }
 {}
 
 /// A file that begins with a block begins as an Actually Portable Executable (APE specification), and has the here-document's

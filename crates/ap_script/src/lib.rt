@@ -2,23 +2,26 @@
 //! that holds them.
 #![tactic(auto)]
 
-mod block;
 mod body;
 mod delimiter;
+mod ending;
 mod header;
 mod law;
 mod place;
 mod script;
+mod shell;
 mod table;
+mod tables;
 mod text;
 
-pub use block::block_bytes;
 pub use delimiter::choose_delimiter;
 pub use header::elf_header;
 pub use law::{
-    blocks_have_lengths, blocks_hold_tables, bodies_hold_zeros, delimiters_are_free,
-    headers_have_lengths, statements_are_taken, statements_stand,
+    blocks_are_claimed, blocks_have_lengths, blocks_hold_tables, bodies_hold_zeros,
+    delimiters_are_free, headers_have_lengths, statements_are_taken, statements_stand,
 };
+pub use shell::write_script;
+pub use tables::write_tables;
 
 #[cfg(test)]
 mod tests;

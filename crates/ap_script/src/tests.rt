@@ -4,6 +4,7 @@ ghost use Rattle.ap_check.specs.Inputs.{Meets, load_of};
 
 use crate::*;
 use ap_check::{Input, Job, Machine, Options, Symbols, Systems, taken_loads};
+use ap_claims::Block;
 use ap_elf::{Entry, entries};
 use ap_fields::BLOCK;
 use ap_layout::place;
@@ -11,6 +12,8 @@ use arrayvec::ArrayVec;
 use bitflags::Flags;
 use std::process::Abort;
 use std::test::Fail;
+
+mod claims;
 
 /// The program headers that the linker looks at beside the loads.
 #[derive(Drop)]
@@ -58,7 +61,13 @@ fn alone() -> Beside
     }
 }
 
-fn block_for(systems: Systems, first: &Input, second: Option<&Input>) -> [u8; BLOCK]
+/// A block with the claims of all writers.
+fn block_for(
+    rt: &impl Abort,
+    systems: Systems,
+    first: &Input,
+    second: Option<&Input>,
+) -> [u8; BLOCK]
     requires first { first.now.number ≡ 1 }
     requires second { IfSome (option_copied second) (λ i. i.number ≡ 2) }
     requires machines { IfSome (option_copied second) (λ i. first.now.machine ≢ i.machine) }
@@ -72,7 +81,13 @@ fn block_for(systems: Systems, first: &Input, second: Option<&Input>) -> [u8; BL
         },
         base: 0,
     };
-    block_bytes(&job, &place(&job))
+    let lay = place(&job);
+    let mut block = Block::new();
+    assert_eq!(rt; write_tables(&mut block, &job, &lay), Ok(()));
+    assert_eq!(rt; write_script(&mut block, &job, &lay), Ok(()));
+    let mut bytes = [0; BLOCK];
+    bytes.copy_from_slice(block.bytes());
+    bytes
 }
 
 const CODE: Entry = Entry {
@@ -112,7 +127,7 @@ const SMALL_SCRIPT: &[u8] = b"if command -v ape >/dev/null 2>&1; then\n\
 #[test]
 fn a_program_of_one_load(rt: HostRuntime) {
     let plain = input(1, Machine::X64, 144, 0x401000, &[CODE], alone());
-    let block = block_for(Systems::LINUX, &plain, None);
+    let block = block_for(&rt, Systems::LINUX, &plain, None);
     assert_eq!(rt; &block[..9], b"jartsr='\n".as_slice());
     assert_eq!(rt; &block[9..64], [0; 55].as_slice());
     assert_eq!(rt; &block[64..86], b"' <<'apelink00000000'\n".as_slice());
@@ -133,7 +148,7 @@ fn a_program_of_one_load(rt: HostRuntime) {
 #[test]
 fn lines_by_systems(rt: HostRuntime) {
     let plain = input(1, Machine::X64, 144, 0x401000, &[CODE], alone());
-    for (systems, line) in [
+    for (systems, lines) in [
         (
             Systems::LINUX,
             b"if [ \"$s\" = Linux ]; then\nif ".as_slice(),
@@ -144,19 +159,48 @@ fn lines_by_systems(rt: HostRuntime) {
         ),
         (
             Systems::all(),
-            b"if [ \"$s\" = Linux ] || [ \"$s\" = FreeBSD ] || [ \"$s\" = NetBSD ]; then\nif ",
+            b"if [ \"$s\" = Darwin ]; then\n\
+            if [ \"$m\" = x86_64 ]; then\n\
+            cp \"$0\" \"$t\" || exit 121\n\
+            chmod 700 \"$t\" || exit 122\n\
+            dd if=\"$t\" of=\"$t\" bs=8 skip=0 count=0 conv=notrunc 2>/dev/null || exit 123\n\
+            exec \"$t\" \"$@\"\n\
+            fi\n\
+            exit 125\n\
+            fi\n\
+            if [ \"$s\" = Linux ] || [ \"$s\" = FreeBSD ] || [ \"$s\" = NetBSD ]; then\nif ",
         ),
         (
             Systems::LINUX.union(Systems::NETBSD),
             b"if [ \"$s\" = Linux ] || [ \"$s\" = NetBSD ]; then\nif ",
         ),
-        (Systems::MAC, b"if [ 0 = 1 ]; then\nif "),
+        (
+            Systems::MAC,
+            b"if [ \"$s\" = Darwin ]; then\n\
+            if [ \"$m\" = x86_64 ]; then\n\
+            cp \"$0\" \"$t\" || exit 121\n\
+            chmod 700 \"$t\" || exit 122\n\
+            dd if=\"$t\" of=\"$t\" bs=8 skip=0 count=0 conv=notrunc 2>/dev/null || exit 123\n\
+            exec \"$t\" \"$@\"\n\
+            fi\n\
+            exit 125\n\
+            fi\n\
+            if [ 0 = 1 ]; then\nif ",
+        ),
         (Systems::empty(), b"if [ 0 = 1 ]; then\nif "),
     ] {
-        let block = block_for(systems, &plain, None);
+        let block = block_for(&rt, systems, &plain, None);
         assert!(rt; block[169..].starts_with(SCRIPT_START));
-        assert!(rt; block[286..].starts_with(line), "{}", systems.bits());
+        assert!(rt; block[286..].starts_with(lines), "{}", systems.bits());
     }
+    let other = input(1, Machine::A64, 144, 0x404000, &[AARCH64], alone());
+    let block = block_for(&rt, Systems::MAC, &other, None);
+    assert!(rt; block[169..].starts_with(SCRIPT_START));
+    assert!(rt;
+        block[286..].starts_with(
+            b"if [ \"$s\" = Darwin ]; then\nexit 125\nfi\nif [ 0 = 1 ]; then\nif "
+        )
+    );
 }
 
 const AARCH64: Entry = Entry {
@@ -184,10 +228,10 @@ const A64_LINES: &[u8] = b"if [ \"$m\" = aarch64 ] || [ \"$m\" = arm64 ]; then\n
 fn two_machines_in_either_order(rt: HostRuntime) {
     let plain = input(1, Machine::X64, 144, 0x401000, &[CODE], alone());
     let other = input(2, Machine::A64, 144, 0x404000, &[AARCH64], alone());
-    let plain_first = block_for(Systems::LINUX, &plain, Some(&other));
+    let plain_first = block_for(&rt, Systems::LINUX, &plain, Some(&other));
     let other = input(1, Machine::A64, 144, 0x404000, &[AARCH64], alone());
     let plain = input(2, Machine::X64, 144, 0x401000, &[CODE], alone());
-    let other_first = block_for(Systems::LINUX, &other, Some(&plain));
+    let other_first = block_for(&rt, Systems::LINUX, &other, Some(&plain));
     has_both_machines(&rt, &plain_first);
     has_both_machines(&rt, &other_first);
 }
@@ -325,7 +369,7 @@ fn the_table_of_a_static_program(rt: HostRuntime) {
         notes,
     };
     let program = input(1, Machine::X64, 0xab998, 0x401650, &STATIC_LOADS, beside);
-    let block = block_for(Systems::LINUX, &program, None);
+    let block = block_for(&rt, Systems::LINUX, &program, None);
     let [first, second, third, fourth] = STATIC_LOADS;
     let note = Entry {
         flags: 4,
@@ -392,7 +436,7 @@ fn sizes_of_stacks(rt: HostRuntime) {
             notes: ArrayVec::new(),
         };
         let plain = input(1, Machine::X64, 144, 0x401000, &[CODE], beside);
-        let block = block_for(Systems::LINUX, &plain, None);
+        let block = block_for(&rt, Systems::LINUX, &plain, None);
         let written = Entry {
             flags: 6,
             memsz: given,
@@ -430,7 +474,7 @@ fn entries_without_bytes(rt: HostRuntime) {
         notes: ArrayVec::new(),
     };
     let program = input(1, Machine::X64, 144, 0x401000, &[CODE, zeros], beside);
-    let block = block_for(Systems::LINUX, &program, None);
+    let block = block_for(&rt, Systems::LINUX, &program, None);
     let written = [
         Entry {
             offset: 16384,
@@ -504,7 +548,7 @@ fn a_body_that_spells_a_delimiter(rt: HostRuntime) {
         &[code, data],
         beside,
     );
-    let block = block_for(Systems::LINUX, &letters, None);
+    let block = block_for(&rt, Systems::LINUX, &letters, None);
     let written = Entry {
         flags: 4,
         offset: 0xa2061,

@@ -16,6 +16,7 @@ use crate::options::{View, read_view};
 use crate::show::show;
 use crate::words::{Link, read_link};
 use ap_check::Options;
+use ap_claims::Block;
 use ap_files::{Files, Sink};
 use ap_link::{LinkEnd, link_stream};
 use std::alloc::Global;
@@ -75,7 +76,15 @@ fn link<F: Files>(files: &mut F, names: &Link<'_>) -> Cause
         systems: names.systems,
         debug: false,
     };
-    match link_stream(names.first, names.second, &options, names.out, files) {
+    let mut block = Block::new();
+    match link_stream(
+        names.first,
+        names.second,
+        &options,
+        names.out,
+        files,
+        &mut block,
+    ) {
         Ok(_) => Cause::Done,
         Err(LinkEnd::Rule(fault)) => Cause::Refused(fault),
         Err(LinkEnd::ReadFault) => Cause::ReadFault,

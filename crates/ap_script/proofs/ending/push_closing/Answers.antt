@@ -1,5 +1,5 @@
-use Rattle.ap_script.proofs.Blocks.{closing-next}
-use Rattle.ap_script.proofs.block.push_closing.Goals as goal
+use Rattle.ap_script.proofs.Endings.{closing-next}
+use Rattle.ap_script.proofs.ending.push_closing.Goals as goal
 
 pub returns-clause-items : goal.returns-clause-items
 returns-clause-items c =

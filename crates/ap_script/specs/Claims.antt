@@ -1,0 +1,59 @@
+-- What the block of a linked file is claimed for, and by whom.
+use Rattle.std.specs.Prelude.{ℕ, List, [], ◌∷◌, ◌++◌, Option, Some, None}
+use Rattle.ap_fields.specs.declared.sizes.TheConstants.{BLOCK}
+use Rattle.ap_claims.specs.declared.owner.Owner.{Owner}
+use Rattle.ap_claims.specs.declared.owner.Owner.TheVariants.{Shell, Ape, Elf}
+use Rattle.ap_claims.specs.Lists.{Claim}
+use Rattle.ap_claims.specs.Files.{IsFile}
+use Rattle.ap_octal.specs.Statement.{statement_of}
+use Rattle.ap_check.specs.declared.machine.Machine.TheVariants.{X64, A64}
+use Rattle.ap_check.specs.declared.options.Systems.{Systems}
+use Rattle.ap_check.specs.Inputs.{Taken}
+use Rattle.ap_layout.specs.declared.layout.Area.{Area}
+use Rattle.ap_layout.specs.Positions.{Positions, Fits}
+use Rattle.ap_script.specs.Tables.{table_text}
+use Rattle.ap_script.specs.Script.{header_for}
+use Rattle.ap_script.specs.Delimiter.{delimiter_number}
+use Rattle.ap_script.specs.Blocks.{magic, magic_line, opening_line, body_of, ending_of, block_of}
+use Rattle.ap_script.specs.Stands.{statement_place}
+
+-- bytes that an owner claims from a place on
+abbrev pub claim : Owner → ℕ → List ℕ → Claim
+claim owner at bytes = record { owner = owner; at = at; bytes = bytes }
+
+-- each input's program header table
+abbrev pub table_claims : List Taken → List (List Area) → List ℕ → List Claim
+table_claims [] areas tables = []
+table_claims (e ∷ inputs) [] tables = []
+table_claims (e ∷ inputs) (areas ∷ more) [] = []
+table_claims (e ∷ inputs) (areas ∷ more) (t ∷ tables) = claim Elf t (table_text e areas) ∷ table_claims inputs more tables
+
+-- the statement of a header, where there is one
+abbrev pub statement_claims : Option (List ℕ) → ℕ → List Claim
+statement_claims None place = []
+statement_claims (Some header) place = claim Ape place (statement_of header) ∷ []
+
+-- what an APE loader looks for
+abbrev pub ape_claims : Systems → List Taken → Positions → List Claim
+ape_claims systems inputs l =
+    claim Ape 0 magic
+    ∷ (statement_claims (header_for X64 inputs l.tables) (statement_place systems inputs l X64)
+    ++ statement_claims (header_for A64 inputs l.tables) (statement_place systems inputs l A64))
+
+-- the script, and what makes a shell skip the body
+abbrev pub shell_claims : Systems → List Taken → Positions → List Claim
+shell_claims systems inputs l =
+    claim Shell 0 magic_line
+    ∷ claim Shell 64 (opening_line (delimiter_number (body_of inputs l)))
+    ∷ claim Shell l.body_end (ending_of systems inputs l)
+    ∷ []
+
+abbrev pub script_claims : Systems → List Taken → Positions → List Claim
+script_claims systems inputs l = ape_claims systems inputs l ++ shell_claims systems inputs l
+
+abbrev pub block_claims : Systems → List Taken → Positions → List Claim
+block_claims systems inputs l = table_claims inputs l.areas l.tables ++ script_claims systems inputs l
+
+-- the block is the file of its claims
+abbrev pub BlockIsClaimed : Type 0
+BlockIsClaimed = (systems : Systems) (inputs : List Taken) (l : Positions) → Fits inputs l → IsFile BLOCK (block_claims systems inputs l) (block_of systems inputs l)

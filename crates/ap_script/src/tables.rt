@@ -1,0 +1,42 @@
+// The program header tables, claimed.
+ghost use Rattle.std.specs.Prelude.{◌≡◌, ◌+◌, ◌≤◌, ◌<◌, ◌^◌, [], ◌∷◌, length, All};
+ghost use Rattle.ap_fields.specs.declared.sizes.TheConstants.{WINDOW};
+ghost use Rattle.ap_claims.specs.declared.owner.Owner.TheVariants.{Elf};
+ghost use Rattle.ap_claims.specs.Lists.{Makes};
+ghost use Rattle.ap_layout.specs.Positions.{Fits};
+ghost use Rattle.ap_script.specs.Claims.{claim, table_claims};
+ghost use Rattle.ap_script.specs.Jobs.{job_inputs};
+ghost use Rattle.ap_script.specs.Tables.{table_text};
+
+use crate::body::push_table;
+use ap_check::{Input, Job};
+use ap_claims::{Block, Clash, ElfView};
+use ap_layout::{Area, Layout};
+use arrayvec::ArrayVec;
+
+/// Claims the program header table of each input for `Owner::Elf`, where the parts of the linked file have these places.
+///
+/// `Clash` comes exactly where a byte of them is held with another value, and is the first such byte. Then only tables in front
+/// of its own have been claimed.
+pub fn write_tables(block: &mut Block, job: &Job<'_>, lay: &Layout) -> Result<(), Clash>
+    requires { Fits (job_inputs job.now) lay.now }
+    ensures { Makes block.old block.new (table_claims (job_inputs job.now) lay.now.areas lay.now.tables) result }
+{
+    write_table(block, job.first, &lay.areas[0], lay.tables[0])?;
+    match job.second {
+        None => Ok(()),
+        Some(second) => write_table(block, second, &lay.areas[1], lay.tables[1]),
+    }
+}
+
+/// Claims the table of an input whose loads have these areas.
+fn write_table(block: &mut Block, input: &Input, areas: &[Area], at: u32) -> Result<(), Clash>
+    requires place { at + 1736 ≤ WINDOW }
+    requires same { length areas.now ≡ length input.now.loads }
+    requires places { All (λ x. x.file < 2 ^ 31) areas.now }
+    ensures { Makes block.old block.new (claim Elf at (table_text input.now areas.now) ∷ []) result }
+{
+    let mut text = ArrayVec::new();
+    push_table(&mut text, input, areas);
+    ElfView::new(block, at as usize).put_bytes(0, &text)
+}
