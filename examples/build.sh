@@ -1,19 +1,42 @@
 #!/bin/sh
-# Assembles and links the example into the file that its argument names: a static x86-64 ELF program. Needs as and ld of GNU
-# binutils.
+# Builds an example into the file OUT, on x86-64 Linux: a static ELF program for one machine.
+# hello is of the machine's assembler and uses no library; threads is threads.c with the start stub start.S.
+# Usage: examples/build.sh hello|threads x86-64|aarch64 OUT
 set -eu
 
-out=${1:?usage: examples/build.sh OUT}
-here=$(dirname "$0")
+usage() {
+    echo 'usage: examples/build.sh hello|threads x86-64|aarch64 OUT' >&2
+    exit 2
+}
 
-for tool in as ld; do
-    command -v "$tool" >/dev/null || {
-        echo "examples/build.sh: $tool is missing; it is in the package binutils" >&2
+need() { # TOOL PACKAGE
+    command -v "$1" >/dev/null || {
+        echo "examples/build.sh: $1 is missing; it is in the package $2" >&2
         exit 2
     }
-done
+}
 
-object=$out.o
-trap 'rm -f "$object"' EXIT
-as --64 -o "$object" "$here/hello.s"
-ld -m elf_x86_64 -static -o "$out" "$object"
+[ $# = 3 ] || usage
+out=$3
+here=$(dirname "$0")
+
+case $2 in
+x86-64) prefix='' package='' source=$here/hello.s ;;
+aarch64) prefix=aarch64-linux-gnu- package=-aarch64-linux-gnu source=$here/hello-aarch64.s ;;
+*) usage ;;
+esac
+
+case $1 in
+threads)
+    need "${prefix}gcc" "gcc$package"
+    "${prefix}gcc" -O2 -static -pthread -o "$out" "$here/threads.c" "$here/start.S" -Wl,-e,ape_start
+    ;;
+hello)
+    need "${prefix}as" "binutils$package"
+    need "${prefix}ld" "binutils$package"
+    trap 'rm -f "$out.o"' EXIT
+    "${prefix}as" -o "$out.o" "$source"
+    "${prefix}ld" -static -o "$out" "$out.o"
+    ;;
+*) usage ;;
+esac

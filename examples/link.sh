@@ -1,0 +1,25 @@
+#!/bin/sh
+# Builds the examples into the folder OUT and links each by apetool into one file for Linux: for x86-64, and for AArch64
+# too where the cross tools are there. Usage: examples/link.sh APETOOL OUT
+set -eu
+
+[ $# = 2 ] || {
+    echo 'usage: examples/link.sh APETOOL OUT' >&2
+    exit 2
+}
+apetool=$1
+out=$2
+here=$(dirname "$0")
+
+mkdir -p "$out"
+for example in hello threads; do
+    "$here/build.sh" "$example" x86-64 "$out/$example.x64" || exit
+    set -- "$out/$example.x64"
+    if "$here/build.sh" "$example" aarch64 "$out/$example.a64"; then
+        set -- "$@" "$out/$example.a64"
+    else
+        echo "examples/link.sh: $example is linked for x86-64 alone"
+    fi
+    "$apetool" link --systems linux -o "$out/$example" "$@"
+    echo "$out/$example: $*"
+done
