@@ -2,6 +2,7 @@
 # Tries what the program does with the machine's files: the outputs, the inputs that are outputs by another name, and what
 # is printed.
 # Usage: scripts/files.sh [APETOOL]
+# shellcheck source=scripts/lib.sh
 . "$(dirname "$0")/lib.sh"
 
 ends() { # STATUS COMMAND..

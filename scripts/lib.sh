@@ -1,5 +1,6 @@
 # What the scripts of tests share: how they count, and where their program and files are. It is sourced by bash, with the
 # path of the built apetool as its argument, if there is one.
+# shellcheck shell=bash
 
 export LC_ALL=C
 root=$(cd "$(dirname "${BASH_SOURCE[0]}")/.." && pwd)

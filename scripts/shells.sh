@@ -1,6 +1,7 @@
 #!/usr/bin/env bash
 # Runs the linked example under each shell that is there, and compares what it prints and its status with those of the
 # program that was linked. Usage: scripts/shells.sh [APETOOL]
+# shellcheck source=scripts/lib.sh
 . "$(dirname "$0")/lib.sh"
 
 words=('' one 'two words' '  ' "it's" '"double"' '$HOME `id` \n %s' $'two\nlines' '*' -n -- '<<' 'Grüße')
@@ -98,7 +99,7 @@ fake "$work/aarch64" uname '[ "$1" = -m ] && echo aarch64 || echo Linux'
 fake "$work/FreeBSD" uname '[ "$1" = -m ] && echo amd64 || echo FreeBSD'
 fake "$work/Darwin" uname '[ "$1" = -m ] && echo x86_64 || echo Darwin'
 
-check 'the example is built' "$root/examples/build.sh" "$work/hello.elf"
+check 'the example is built' "$root/examples/build.sh" hello x86-64 "$work/hello.elf"
 check 'the example is linked' link "$work/hello" "$work/hello.elf"
 "$work/hello.elf" "${words[@]}" >"$work/wanted"
 wanted_status=$?

@@ -3,6 +3,7 @@
 # bytes; a link of a program of 100,000 symbols against one of the same program stripped; and a load of a file of 500 MB
 # against cat of it. A load may take 2 times as long as cat. Where STRICT is set a link may take 2.5 times as long as cp,
 # and one with symbols 1.3 times as long as one without. Usage: scripts/speed.sh [APETOOL]
+# shellcheck source=scripts/lib.sh
 . "$(dirname "$0")/lib.sh"
 
 size=100000000
