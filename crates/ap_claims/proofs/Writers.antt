@@ -62,10 +62,6 @@ are-writers = record { one = makes-one; onward = makes-onward; stopped = makes-s
 
 -- ---- writers that stop at a clash, as `?` does
 
--- no claim at all
-pub makes-none : (b : BlockState) → Makes b b [] (Ok tt)
-makes-none b = (refl, refl)
-
 -- a writer that clashes, in front of others
 pub stopped-writer : (xs ys : List Claim) (b after : BlockState) (made answer : Result (Unit {0}) Clash) (clash : Clash) → Makes b after xs made → made ≡ Err clash → answer ≡ Err clash → Makes b after (xs ++ ys) answer
 stopped-writer xs ys b after made answer clash h stops is = subst (Makes b after (xs ++ ys)) (sym is) (makes-stopped xs ys b after clash (subst (Makes b after xs) stops h))
@@ -85,5 +81,3 @@ stopped-claim c more b after bytes made answer clash spelled h stops is = stoppe
 pub next-claim : (c : Claim) (more : List Claim) (b between after : BlockState) (bytes : List ℕ) (made answer : Result (Unit {0}) Clash) (done : Unit {0})
     → bytes ≡ c.bytes → Claims c.owner b between c.at bytes made → made ≡ Ok done → Makes between after more answer → Makes b after (c ∷ more) answer
 next-claim c more b between after bytes made answer done spelled h goes later = next-writer (c ∷ []) more b between after made answer done (one-claim c b between bytes made spelled h) goes later
-
-pub ruleset make_steps = (makes-one, makes-onward, makes-stopped)

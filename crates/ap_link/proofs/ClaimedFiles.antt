@@ -18,8 +18,8 @@ use Rattle.ap_check.specs.declared.options.Systems.{Systems}
 use Rattle.ap_check.specs.Machines.{granule_of}
 use Rattle.ap_check.specs.Inputs.{Taken}
 use Rattle.ap_layout.specs.declared.layout.Area.{Area}
-use Rattle.ap_layout.specs.Areas.{content_of, no_area, end_of, area_of, areas_of, is_new}
-use Rattle.ap_layout.specs.Positions.{Positions, Fits, no_sharing, positions_of, inputs_of}
+use Rattle.ap_layout.specs.Areas.{content_of, end_of, area_of, areas_of, end_from, is_new}
+use Rattle.ap_layout.specs.Positions.{input_areas, Positions, Fits, no_sharing}
 use Rattle.ap_layout.proofs.Rounded.{granule_of-is}
 use Rattle.ap_script.specs.Claims.{claim, block_claims}
 use Rattle.ap_script.specs.Blocks.{block_of}
@@ -69,7 +69,8 @@ from-areas i g byte (p ∷ loads) c is =
 from-input : (c : ℕ) (e : Taken) (bytes : List ℕ) → IsFrom c (input_claims c e bytes) (input_text c e bytes)
 from-input c e bytes = from-areas 0 (granule_of e.machine) (bytes_in bytes) e.loads c (granule_of-is e.machine)
 
-text-end : (e : Taken) (b : List ℕ) (c : ℕ) → c + length (input_text c e b) ≡ Rattle.ap_layout.specs.Areas.end_from c (Rattle.ap_layout.specs.Positions.input_areas e c)
+-- where the text of an input ends
+pub text-end : (e : Taken) (b : List ℕ) (c : ℕ) → c + length (input_text c e b) ≡ end_from c (input_areas e c)
 text-end e b c = length-text 0 (granule_of e.machine) (bytes_in b) e.loads c (granule_of-is e.machine)
 
 -- the whole file, of the size that it has

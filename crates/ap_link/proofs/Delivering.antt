@@ -1,13 +1,11 @@
 -- How a link of inputs that were taken ends.
-use Rattle.std.proofs.Common.{◌≡◌, ◌≢◌, ◌⊎◌, inl, inr, ℕ, List, ◌++◌, length, take, IfSome, Option, Some, None, Result, Ok, Err, refl, sym, ap, ◌∙◌, subst, arith}
-use Rattle.std.proofs.lemmas.Bool.Decides.{nat_tests}
+use Rattle.std.proofs.Common.{◌≡◌, ◌≢◌, ◌⊎◌, inl, inr, ℕ, List, ◌++◌, length, take, IfSome, Option, Some, None, Result, Ok, Err, refl, sym, ap, ◌∙◌, subst}
 use Rattle.ap_fields.specs.FirstFault.{first_fault}
 use Rattle.ap_files.specs.Files.{FileMap, FileState, with_file}
 use Rattle.ap_check.specs.declared.fault.Fault.{Fault}
 use Rattle.ap_check.specs.declared.options.Systems.{Systems}
-use Rattle.ap_check.specs.Machines.{number_of}
 use Rattle.ap_check.specs.Inputs.{Taken, input_of}
-use Rattle.ap_check.specs.Both.{machines_rules, pair_rules, first_fault_of_both, IsTakenOf, AreTakenOf}
+use Rattle.ap_check.specs.Both.{pair_rules, first_fault_of_both, IsTakenOf, AreTakenOf}
 use Rattle.ap_check.proofs.Laws.{input_meets}
 use Rattle.ap_check.proofs.Pairs.{pair-says}
 use Rattle.ap_layout.specs.Positions.{Positions, positions_of, inputs_of}
@@ -22,7 +20,7 @@ use Rattle.ap_link.specs.Answers.{IsLinked}
 use Rattle.ap_link.specs.FileAnswers.{HasInputs, HasFront, LinksFiles}
 use Rattle.ap_link.specs.Sources.{second_name, second_taken, second_bytes, IsSource, end_of_copy}
 use Rattle.ap_link.specs.Transfers.{ForInputs, Makes}
-use Rattle.ap_link.proofs.LinkedFiles.{AreLinkable, file-linked, file-length}
+use Rattle.ap_link.proofs.LinkedFiles.{AreLinkable, apart-by, file-linked, file-length}
 
 -- ---- what is told of inputs
 
@@ -42,9 +40,6 @@ sources-taken kept first None h k = h.told
 sources-taken kept first (Some s) h k = λ m e. let t = h.told m e in (t.0, t.1, λ m' e'. let u = k.told m' e' in (u.0, u.1, (t.2, u.2)))
 
 -- ---- inputs that meet all rules
-
-machines-differ : (n m : ℕ) → first_fault (machines_rules n m) ≡ None → n ≢ m
-machines-differ n m none same = grind (arith, nat_tests)
 
 linked-is : (systems : Systems) (a : List ℕ) (b : Option (List ℕ)) → linked_of systems a b ≡ block_for systems (input_of 1 a) (taken_second b) ++ tail_of (input_of 1 a) a (second_of b)
 unfolding linked_of
@@ -71,7 +66,7 @@ two-ready : (systems : Systems) (e : Taken) (s : Source) (a b : List ℕ) → Is
     → IsReady systems e (Some s) a (Some b)
 two-ready systems e s a b is and pair none =
     let f : Taken = s.input.now in
-    let apart : e.machine ≢ f.machine = λ same. machines-differ (number_of e.machine) (number_of f.machine) pair (ap number_of same) in
+    let apart : e.machine ≢ f.machine = apart-by e f pair in
     let able : AreLinkable (input_of 1 a) (Some (input_of 2 b)) = record {
       first = input_meets 1 a is.0;
       second = input_meets 2 b and.0;

@@ -43,9 +43,9 @@ use Rattle.ap_link.specs.LinkedIn.{HoldAll, IsLinkedIn}
 use Rattle.ap_link.specs.Linked.{input_text, input_end, tail_of, block_for, second_of, taken_second, linked_of}
 use Rattle.ap_link.specs.LinkedClaims.{linked_claims, tail_claims}
 use Rattle.ap_link.specs.Answers.{Carries, IsLinked}
-use Rattle.ap_link.proofs.ClaimedFiles.{whole-claimed}
+use Rattle.ap_link.proofs.ClaimedFiles.{text-end, whole-claimed}
 use Rattle.ap_link.proofs.LinkedImages.{elf-is-same, ape-is-same}
-use Rattle.ap_link.proofs.PlacedTexts.{length-text, text-held}
+use Rattle.ap_link.proofs.PlacedTexts.{text-held}
 
 -- what is taken of bytes
 entry-taken : (n : ℕ) (b : List ℕ) → (input_of n b).entry ≡ (header_of b).e_entry
@@ -78,9 +78,6 @@ machines-differ e (Some f) h = (other, ((λ k d low. absurd (omega (arith, low))
     other (suc k) d low = absurd (omega (arith, low))
 
 -- ---- how long a linked file is
-
-text-end : (e : Taken) (b : List ℕ) (c : ℕ) → c + length (input_text c e b) ≡ end_from c (input_areas e c)
-text-end e b c = length-text 0 (granule_of e.machine) (bytes_in b) e.loads c (granule_of-is e.machine)
 
 abbrev pub total-of : Taken → Option (Taken × List ℕ) → ℕ
 total-of e None = input_end e
@@ -292,7 +289,7 @@ file-linked systems a (Some b) h =
 
 -- ---- inputs that break no rule
 
-apart-by : (e f : Taken) → first_fault (pair_rules e (Some f)) ≡ None → e.machine ≢ f.machine
+pub apart-by : (e f : Taken) → first_fault (pair_rules e (Some f)) ≡ None → e.machine ≢ f.machine
 apart-by e f none same =
     let number : number_of e.machine ≡ number_of f.machine = ap number_of same in
     let test : (number_of e.machine == number_of f.machine) ≡ true = grind (arith, nat_tests) in

@@ -1,7 +1,6 @@
 -- The parts of the block: how long they are, and what they hold.
-use Rattle.std.proofs.Common.{◌≡◌, ℕ, zero, suc, ◌+◌, ◌-◌, ◌/◌, ◌%◌, ◌≤◌, ◌==◌, not, true, List, [], ◌∷◌, ◌++◌, length, get_or, refl, sym, ap, ◌∙◌, arith, length-append, append_assoc, subst}
+use Rattle.std.proofs.Common.{◌≡◌, ℕ, zero, suc, ◌+◌, ◌-◌, ◌/◌, ◌%◌, ◌≤◌, true, List, [], ◌∷◌, ◌++◌, length, get_or, refl, sym, ap, ◌∙◌, arith, length-append, append_assoc, subst}
 use Rattle.std.specs.Prelude.{codes}
-use Rattle.std.proofs.lemmas.Bool.Decides.{nat_tests}
 use Rattle.std.proofs.lemmas.List.{length-replicate}
 use Rattle.ap_fields.specs.declared.sizes.TheConstants.{BLOCK, WINDOW}
 use Rattle.ap_fields.specs.Bytes.{zeros, Holds}
@@ -16,7 +15,7 @@ use Rattle.ap_script.specs.Script.{header_for}
 use Rattle.ap_script.specs.Delimiter.{digits_of, delimiter, delimiter_number}
 use Rattle.ap_script.specs.Blocks.{opening, tables_text, body_of, closing, script_for, shell_text, spaces, block_of}
 use Rattle.ap_script.specs.Stands.{HoldsTables}
-use Rattle.ap_script.proofs.Quotes.{has_no_quote, is_clear, is_bare, bare-append, bare-clear, bare-no_quote, no_quote-append}
+use Rattle.ap_script.proofs.Quotes.{digit-bare, has_no_quote, is_clear, is_bare, bare-append, bare-clear, bare-no_quote, no_quote-append}
 use Rattle.ap_script.proofs.DelimiterWords.{length-delimiter}
 use Rattle.ap_script.proofs.TableLengths.{length-tables, holds-tables}
 use Rattle.ap_script.proofs.ScriptParts.{header-is, length-script}
@@ -111,9 +110,6 @@ length-block systems inputs l fits =
     omega arith
 
 -- ---- the opening and the delimiter's line
-
-digit-bare : (x : ℕ) → (not (48 + x == 32) ≡ true) × (not (48 + x == 39) ≡ true)
-digit-bare x = (grind (arith, nat_tests), grind (arith, nat_tests))
 
 bare-digits : (n k : ℕ) → is_bare (digits_of n k) ≡ true
 bare-digits zero k = refl

@@ -1,6 +1,6 @@
 -- The delimiter that is chosen doesn't stand in the body: each place of a text spells one number at most, so one of so many
 -- numbers as the text has places, and one more, is free.
-use Rattle.std.proofs.Common.{◌≡◌, inl, inr, ℕ, zero, suc, ◌+◌, ◌*◌, ◌-◌, ◌/◌, ◌%◌, ◌^◌, ◌≤◌, ◌<◌, ◌==◌, ◌&&◌, ◌||◌, not, cond, Bool, true, false, List, [], ◌∷◌, ◌++◌, length, take, drop, refl, sym, ap, ◌∙◌, arith, length-append}
+use Rattle.std.proofs.Common.{◌≡◌, inl, inr, ℕ, zero, suc, ◌+◌, ◌*◌, ◌-◌, ◌/◌, ◌%◌, ◌^◌, ◌≤◌, ◌<◌, ◌==◌, ◌||◌, not, cond, Bool, true, false, List, [], ◌∷◌, ◌++◌, length, take, drop, refl, sym, ap, ◌∙◌, arith, length-append}
 use Rattle.std.specs.Prelude.{codes, ◌≢◌}
 use Rattle.std.proofs.Math.Nat.{pow-suc}
 use Rattle.std.proofs.lemmas.Bool.{cases_Bool}
@@ -8,6 +8,7 @@ use Rattle.std.proofs.lemmas.Bool.Decides.{nat_tests}
 use Rattle.ap_fields.specs.declared.sizes.TheConstants.{WINDOW}
 use Rattle.ap_script.specs.Delimiter.{digits_of, delimiter, begins_with, stands_in, without_nul, least_from, delimiter_number}
 use Rattle.ap_script.specs.Stands.{HasPart}
+use Rattle.ap_script.proofs.Quotes.{both, not_true}
 
 -- ---- how many numbers below n pass a test
 
@@ -92,10 +93,6 @@ length-digits (suc n) k = let a = length-append (digits_of n (k / 10)) ((48 + k 
 pub length-delimiter : (number : ℕ) → length (delimiter number) ≡ 15
 length-delimiter number = let a = length-append (codes "apelink") (digits_of 8 number) in let r = length-digits 8 number in omega arith
 
-both : (a b : Bool) → (a && b) ≡ true → (a ≡ true) × (b ≡ true)
-both true b h = (refl, h)
-both false b h = absurd (cc)
-
 begins_with-take : (word text : List ℕ) → begins_with word text ≡ true → take (length word) text ≡ word
 begins_with-take [] text h = refl
 begins_with-take (c ∷ word) [] h = absurd (cc)
@@ -147,10 +144,6 @@ length-kept false x xs = omega arith
 length-without_nul : (xs : List ℕ) → length (without_nul xs) ≤ length xs
 length-without_nul [] = omega arith
 length-without_nul (x ∷ xs) = let h = length-kept (not (x == 0)) x (without_nul xs) in let r = length-without_nul xs in omega arith
-
-not_true : (b : Bool) → not b ≡ true → b ≡ false
-not_true true h = absurd (cc)
-not_true false h = refl
 
 one-free : (n : ℕ) (text : List ℕ) → n ≤ 10 ^ 8 → length text < n → (j : ℕ) × (j < n) × (stands_in (delimiter j) text ≡ false)
 one-free n text low short = let few = few-spelled n text low in free-one (λ k. stands_in (delimiter k) text) n (omega arith)

@@ -31,10 +31,6 @@ place_of-drop g (q ∷ loads) [] a i p x h k = absurd (omega arith)
 place_of-drop g (q ∷ loads) (y ∷ areas) a zero p x h k = refl
 place_of-drop g (q ∷ loads) (y ∷ areas) a (suc i) p x h k = place_of-drop g loads areas a i p x (omega arith) (omega arith)
 
-pub place_of-here : (g : ℕ) (loads : List Load) (areas : List Area) (a i : ℕ) (p : Load) (x : Area) → i < length loads → i < length areas → is_backed (get_or loads i p) a ≡ true
-    → place_of g (drop i loads) (drop i areas) a ≡ (get_or areas i x).file + (a - floor_of (get_or loads i p).vaddr g)
-place_of-here g loads areas a i p x h k is = place_of-drop g loads areas a i p x h k ∙ ap (λ b. cond b ((get_or areas i x).file + (a - floor_of (get_or loads i p).vaddr g)) (place_of g (drop (suc i) loads) (drop (suc i) areas) a)) is
-
 pub place_of-next : (g : ℕ) (loads : List Load) (areas : List Area) (a i : ℕ) (p : Load) (x : Area) → i < length loads → i < length areas → is_backed (get_or loads i p) a ≡ false
     → place_of g (drop i loads) (drop i areas) a ≡ place_of g (drop (i + 1) loads) (drop (i + 1) areas) a
 place_of-next g loads areas a i p x h k is =

@@ -101,6 +101,10 @@ second-same e f l a b h is =
 pub second-below : (inputs : List Taken) (l : Positions) (a b : List Area) → Fits inputs l → l.areas ≡ a ∷ b ∷ [] → All (λ x. x.file < 2 ^ 31) b
 second-below inputs l a b f is = front-all (2 ^ 31) b [] (back-all (2 ^ 31) a (b ++ []) (subst (λ areas. All (λ x. x.file < 2 ^ 31) (joined areas)) is (all-below inputs l f)))
 
+-- areas that are others
+pub below-as : (now own : List Area) → now ≡ own → All (λ x. x.file < 2 ^ 31) own → All (λ x. x.file < 2 ^ 31) now
+below-as now own is h = subst (λ l. All (λ x. x.file < 2 ^ 31) l) (sym is) h
+
 -- the two lists of areas
 pub two-areas : (vs : List (ArrayVec Area)) (v w : ArrayVec Area) → length vs ≡ 2 → map (λ x. x.items) vs ≡ (get_or vs 0 v).items ∷ (get_or vs 1 w).items ∷ []
 two-areas [] v w h = absurd (omega arith)

@@ -14,7 +14,7 @@ abbrev pub is_clear : ℕ → List ℕ → Bool
 is_clear before [] = true
 is_clear before (c ∷ text) = not (before == 32 && c == 39) && is_clear c text
 
-both : (a b : Bool) → (a && b) ≡ true → (a ≡ true) × (b ≡ true)
+pub both : (a b : Bool) → (a && b) ≡ true → (a ≡ true) × (b ≡ true)
 both true b h = (refl, h)
 both false b h = absurd (cc)
 
@@ -44,7 +44,7 @@ abbrev pub is_bare : List ℕ → Bool
 is_bare [] = true
 is_bare (c ∷ text) = not (c == 32) && (not (c == 39) && is_bare text)
 
-not_true : (b : Bool) → not b ≡ true → b ≡ false
+pub not_true : (b : Bool) → not b ≡ true → b ≡ false
 not_true true h = absurd (cc)
 not_true false h = refl
 
@@ -75,7 +75,7 @@ bare-no_quote (c ∷ text) h =
     rw y.0 (bare-no_quote text y.1)
 
 -- the octal text of bytes is bare
-digit-bare : (x : ℕ) → (not (48 + x == 32) ≡ true) × (not (48 + x == 39) ≡ true)
+pub digit-bare : (x : ℕ) → (not (48 + x == 32) ≡ true) × (not (48 + x == 39) ≡ true)
 digit-bare x = (grind (arith, nat_tests), grind (arith, nat_tests))
 
 letter-bare : (c : ℕ) → is_letter c ≡ true → (not (c == 32) ≡ true) × (not (c == 39) ≡ true)

@@ -21,7 +21,7 @@ use Rattle.ap_check.specs.Inputs.{Taken}
 use Rattle.ap_layout.specs.Positions.{entry_count}
 use Rattle.ap_script.specs.Tables.{embedded_header, embedded_bytes}
 use Rattle.ap_script.specs.Script.{script_start, has_system, or_tests, system_line, dd_line, darwin_x64_lines, darwin_lines, system_lines, machine_start, machine_end, machine_lines, script_end, script_of, is_machine, header_for}
-use Rattle.ap_script.proofs.Quotes.{has_no_quote, no_quote-append}
+use Rattle.ap_script.proofs.Quotes.{both, has_no_quote, no_quote-append}
 use Rattle.ap_script.proofs.Openings.{Marked, marked-append, marked-quiet, marked-statement, Parts, parts-behind, parts-front}
 
 -- ---- embedded headers
@@ -29,10 +29,6 @@ use Rattle.ap_script.proofs.Openings.{Marked, marked-append, marked-quiet, marke
 pub length-embedded : (e : Taken) (t : ℕ) → length (embedded_bytes e t) ≡ 64
 unfolding header_bytes embedded_header bytes_of
 length-embedded e t = refl
-
-both : (a b : Bool) → (a && b) ≡ true → (a ≡ true) × (b ≡ true)
-both true b h = (refl, h)
-both false b h = absurd (cc)
 
 low-byte : (i x : ℕ) → byte_at i x < 256
 low-byte zero x = omega arith

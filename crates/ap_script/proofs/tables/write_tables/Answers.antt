@@ -1,19 +1,14 @@
-use Rattle.std.proofs.Common.{◌≡◌, ◌∷◌, [], List, get_or, length, ap, sym, ◌∙◌, subst}
-use Rattle.std.specs.Prelude.{All, ◌<◌, ◌^◌}
+use Rattle.std.proofs.Common.{◌≡◌, ◌∷◌, [], get_or, length, ap, sym, ◌∙◌, subst}
 use Rattle.std.specs.Option.{option_copied}
 use Rattle.ap_claims.specs.Lists.{Makes}
 use Rattle.ap_claims.proofs.Writers.{next-writer}
-use Rattle.ap_layout.specs.declared.layout.Area.{Area}
 use Rattle.ap_layout.specs.Positions.{Fits, inputs_of}
 use Rattle.ap_claims.specs.declared.owner.Owner.TheVariants.{Elf}
 use Rattle.ap_script.specs.Tables.{table_text}
 use Rattle.ap_script.specs.Claims.{claim, table_claims}
 use Rattle.ap_script.specs.Jobs.{job_inputs}
-use Rattle.ap_script.proofs.Fitting.{first-same, first-below, second-same, second-below, two-areas, two-claims}
+use Rattle.ap_script.proofs.Fitting.{below-as, first-same, first-below, second-same, second-below, two-areas, two-claims}
 use Rattle.ap_script.proofs.tables.write_tables.Goals as goal
-
-below : (now own : List Area) → now ≡ own → All (λ x. x.file < 2 ^ 31) own → All (λ x. x.file < 2 ^ 31) now
-below now own is h = subst (λ l. All (λ x. x.file < 2 ^ 31) l) (sym is) h
 
 pub write_table-requires-clause-same : goal.write_table-requires-clause-same
 write_table-requires-clause-same c =
@@ -28,7 +23,7 @@ write_table-requires-clause-places c =
     let v = c.index-lay-0.result in
     let vs = c.lay.inside.areas in
     let two = ap (λ l. l.areas) (sym c.lay.view_is) ∙ two-areas vs v v c.lay.told in
-    below c.deref.result.now (get_or vs 0 v).items c.deref.ensures.0
+    below-as c.deref.result.now (get_or vs 0 v).items c.deref.ensures.0
     (first-below (job_inputs c.args.job.now) c.args.lay.now (get_or vs 0 v).items (get_or vs 1 v).items c.requires two)
 
 pub write_table-requires-in-Some-clause-same : goal.write_table-requires-in-Some-clause-same
@@ -45,7 +40,7 @@ write_table-requires-in-Some-clause-places c =
     let v = c.index-lay-1.result in
     let vs = c.lay.inside.areas in
     let two = ap (λ l. l.areas) (sym c.lay.view_is) ∙ two-areas vs v v c.lay.told in
-    below c.deref-in-Some.result.now (get_or vs 1 v).items c.deref-in-Some.ensures.0
+    below-as c.deref-in-Some.result.now (get_or vs 1 v).items c.deref-in-Some.ensures.0
     (second-below (job_inputs c.args.job.now) c.args.lay.now (get_or vs 0 v).items (get_or vs 1 v).items c.requires two)
 
 pub returns-in-Some : goal.returns-in-Some
