@@ -15,7 +15,7 @@ use Rattle.ap_elf.specs.declared.types.Entry.{Entry}
 use Rattle.ap_elf.specs.Fields.{is_load, loads_in}
 use Rattle.ap_check.specs.declared.load.Load.{Load}
 use Rattle.ap_check.specs.declared.symbols.Symbols.{Symbols}
-use Rattle.ap_check.specs.Machines.{granule_of}
+use Rattle.ap_elf.specs.Machines.{granule_of}
 use Rattle.ap_check.specs.Rules.{fault_of, size_rules, dynamic_rules, count_rules, count_of_loads_rules, load_rules, loads_rules, span_rules, entry_rules, stands, single_rules, tls_rules, laid_rules, end_rules, table_rules}
 use Rattle.ap_check.specs.Inputs.{Taken, IsLoad, AreLoads, IsTls, Meets, can_start, is_permitted, span_of, bytes_of_loads, is_tls, is_note, is_stack, load_of, loads_of, first_of, machine_of, taken_of}
 

@@ -10,7 +10,7 @@ use Rattle.ap_elf.specs.declared.types.Entry.{Entry}
 use Rattle.ap_elf.specs.Fields.{header_of, entries_of, loads_in}
 use Rattle.ap_check.specs.declared.fault.Fault.{Fault}
 use Rattle.ap_check.specs.declared.load.Load.{Load}
-use Rattle.ap_check.specs.Machines.{granule_of}
+use Rattle.ap_elf.specs.Machines.{granule_of}
 use Rattle.ap_check.specs.Rules.{size_rules, header_rules, count_of_loads_rules, loads_rules, span_rules, laid_rules, end_rules, table_rules, bare_rules, symbols_rules, input_rules, rules_of, first_fault_of}
 use Rattle.ap_check.specs.Inputs.{is_permitted, machine_of, IsLoad, AreLoads, Meets, loads_of, taken_of, symbols_by, located_of, input_of}
 use Rattle.ap_check.proofs.Held.{loads-permitted, size-held, table_meets}

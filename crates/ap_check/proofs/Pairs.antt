@@ -6,8 +6,8 @@ use Rattle.ap_fields.proofs.FirstFaults.{none-append, some-append, append-none}
 use Rattle.ap_elf.specs.declared.types.Header.{Header}
 use Rattle.ap_elf.specs.Fields.{header_of, entries_of}
 use Rattle.ap_check.specs.declared.fault.Fault.{Fault}
-use Rattle.ap_check.specs.declared.machine.Machine.TheVariants.{X64, A64}
-use Rattle.ap_check.specs.Machines.{number_of}
+use Rattle.ap_elf.specs.declared.machine.Machine.TheVariants.{X64, A64}
+use Rattle.ap_elf.specs.Machines.{number_of}
 use Rattle.ap_check.specs.Rules.{Checks, size_rules, ident_rules, field_rules, header_rules, table_rules, bare_rules, symbols_rules, input_rules, rules_of, first_fault_of}
 use Rattle.ap_check.specs.Inputs.{Taken, machine_of, taken_of, input_of, located_of}
 use Rattle.ap_check.specs.Both.{machines_rules, pair_rules, rules_of_both, first_fault_of_both, IsTakenOf, AreTakenOf}

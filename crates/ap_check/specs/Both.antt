@@ -3,7 +3,7 @@ use Rattle.std.specs.Prelude.{◌≡◌, ℕ, ◌==◌, not, List, [], ◌∷◌
 use Rattle.ap_fields.specs.FirstFault.{Rules, first_fault}
 use Rattle.ap_elf.specs.Fields.{header_of}
 use Rattle.ap_check.specs.declared.fault.Fault.{Fault}
-use Rattle.ap_check.specs.Machines.{number_of}
+use Rattle.ap_elf.specs.Machines.{number_of}
 use Rattle.ap_check.specs.Rules.{fault_of, rules_of, first_fault_of}
 use Rattle.ap_check.specs.Inputs.{Taken, input_of}
 

@@ -10,11 +10,11 @@ use Rattle.ap_elf.specs.declared.types.Located.{Located}
 use Rattle.ap_elf.specs.declared.types.Located.TheVariants.{Part, Missing, At}
 use Rattle.ap_elf.specs.Fields.{header_of, entries_of, loads_in}
 use Rattle.ap_elf.specs.Symbols.{located, value_of}
-use Rattle.ap_check.specs.declared.machine.Machine.{Machine}
-use Rattle.ap_check.specs.declared.machine.Machine.TheVariants.{X64, A64}
+use Rattle.ap_elf.specs.declared.machine.Machine.{Machine}
+use Rattle.ap_elf.specs.declared.machine.Machine.TheVariants.{X64, A64}
 use Rattle.ap_check.specs.declared.load.Load.{Load}
 use Rattle.ap_check.specs.declared.symbols.Symbols.{Symbols}
-use Rattle.ap_check.specs.Machines.{granule_of}
+use Rattle.ap_elf.specs.Machines.{granule_of}
 
 -- an input that meets the rules
 pub record Taken : Type 0 where

@@ -1,4 +1,3 @@
-pub mod Machines
 pub mod Inputs
 pub mod Rules
 pub mod Bare

@@ -15,7 +15,7 @@ use Rattle.ap_elf.specs.declared.types.Located.TheVariants.{Part, Missing, At}
 use Rattle.ap_elf.specs.Symbols.{part_of}
 use Rattle.ap_check.specs.declared.fault.Fault.{Fault}
 use Rattle.ap_check.specs.declared.load.Load.{Load}
-use Rattle.ap_check.specs.Machines.{granule_of}
+use Rattle.ap_elf.specs.Machines.{granule_of}
 use Rattle.ap_check.specs.Inputs.{in_part, can_start, span_of, bytes_of_loads, is_tls, load_of, loads_of, machine_of, located_of}
 
 -- the fault of a rule, in the input number n

@@ -1,6 +1,6 @@
 // What is taken of an input.
 use crate::load::Load;
-use crate::machine::Machine;
+use ap_elf::Machine;
 use crate::symbols::Symbols;
 use ap_elf::Entry;
 use ap_fields::MOST_LOADS;

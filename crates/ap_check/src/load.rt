@@ -6,7 +6,7 @@ ghost use Rattle.ap_check.specs.Inputs.{load_of};
 
 use ap_elf::Entry;
 use ap_fields::MOST_LOADS;
-use ap_image::Perms;
+use ap_fields::Perms;
 use arrayvec::ArrayVec;
 use bitflags::Flags;
 

@@ -2,7 +2,7 @@
 ghost use Rattle.std.specs.Prelude.{◌≡◌, ◌≤◌, ◌<◌, ◌^◌, true, All, IfOk, length, map};
 ghost use Rattle.ap_fields.specs.Granules.{IsGranule};
 ghost use Rattle.ap_fields.specs.declared.sizes.TheConstants.{MOST_LOADS};
-ghost use Rattle.ap_check.specs.Machines.{granule_of};
+ghost use Rattle.ap_elf.specs.Machines.{granule_of};
 ghost use Rattle.ap_check.specs.Rules.{Checks, laid_rules, end_rules, table_rules};
 ghost use Rattle.ap_check.specs.Inputs.{is_permitted, load_of, first_of, is_tls, machine_of, taken_of, no_symbols};
 
@@ -11,7 +11,7 @@ use crate::fault::Fault;
 use crate::input::Input;
 use crate::load::{Load, taken_loads};
 use crate::loads::check_loads;
-use crate::machine::Machine;
+use ap_elf::Machine;
 use crate::notes::notes;
 use crate::span::{check_entry, check_span};
 use crate::stack::stack;

@@ -5,7 +5,7 @@ use crate::*;
 use ap_elf::Entry;
 use ap_fields::{put16, put32, put64};
 use ap_files::{Failed, Files, MemoryFiles};
-use ap_image::Perms;
+use ap_fields::Perms;
 use bitflags::Flags;
 use std::process::Abort;
 use std::test::Fail;

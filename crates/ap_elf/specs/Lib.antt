@@ -1,4 +1,5 @@
 pub mod Fields
+pub mod Machines
 pub mod InputCell
 pub mod ElfReading
 pub mod Written

@@ -2,23 +2,16 @@
 -- Loading"), and the entry.
 use Rattle.std.specs.Prelude.{◌≡◌, ◌⊎◌, ℕ, ◌+◌, ◌*◌, ◌-◌, ◌%◌, ◌^◌, ◌<◌, ◌≤◌, ◌==◌, nat_lt, min, if◌then◌else◌, List, length, map, Some, None, Result, MatchResult}
 use Rattle.ap_fields.specs.FirstFault.{Rules, first_fault}
-use Rattle.ap_fields.specs.Granules.{IsGranule, floor_of, ceil_of}
+use Rattle.ap_fields.specs.Granules.{floor_of, ceil_of}
 use Rattle.ap_elf.specs.declared.types.Header.{Header}
 use Rattle.ap_elf.specs.declared.types.Entry.{Entry}
 use Rattle.ap_elf.specs.declared.fault.ElfFault.{ElfFault}
 use Rattle.ap_elf.specs.Fields.{header_of, entries_of, loads_in}
 use Rattle.ap_elf.specs.InputCell.{permissions_of}
 use Rattle.ap_elf.specs.ElfReading.{elf_rules}
-use Rattle.ap_check.specs.declared.machine.Machine.{Machine}
-use Rattle.ap_check.specs.declared.machine.Machine.TheVariants.{X64, A64}
 use Rattle.ap_image.specs.declared.plan.Region.{Region}
 use Rattle.ap_image.specs.Plans.{Mapping}
 use Rattle.ap_image.specs.Reading.{mapping_unless}
-
--- the page sizes of a machine: 4096, and also 16384 for AArch64
-abbrev pub IsPage : Machine → ℕ → Type 0
-IsPage X64 page = page ≡ 4096
-IsPage A64 page = IsGranule page
 
 -- where the pages of a load begin and end
 abbrev pub start_of : ℕ → Entry → ℕ

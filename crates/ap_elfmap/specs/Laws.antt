@@ -14,12 +14,13 @@ use Rattle.ap_elf.specs.InputCell.{permissions_of}
 use Rattle.ap_elf.specs.ElfReading.{refusal, header_rules, dynamic_rules, load_rules, loads_rules, elf_rules, has_in_pages, page_byte, page_cell, elf_reading_by}
 use Rattle.ap_elf.specs.declared.fault.ElfCause.TheVariants.{NoLoad}
 use Rattle.ap_elf.proofs.Alike.{header_of-same, entries_of-same}
-use Rattle.ap_check.specs.declared.machine.Machine.{Machine}
-use Rattle.ap_check.specs.declared.machine.Machine.TheVariants.{X64, A64}
+use Rattle.ap_elf.specs.declared.machine.Machine.{Machine}
+use Rattle.ap_elf.specs.declared.machine.Machine.TheVariants.{X64, A64}
 use Rattle.ap_image.specs.declared.plan.Region.{Region}
 use Rattle.ap_image.specs.Plans.{Mapping, IsRegion, AreAscendingFrom, AreBacked, end_of, has_address, region_byte, cell_in}
 use Rattle.ap_image.specs.Reading.{Shows, IsPlanOf, AgreeAt, mapping_unless}
-use Rattle.ap_elfmap.specs.ElfPlans.{IsPage, IsLoad, start_of, stop_of, region_of, elf_plan_by, elf_plan, Looks}
+use Rattle.ap_elf.specs.Machines.{IsPage}
+use Rattle.ap_elfmap.specs.ElfPlans.{IsLoad, start_of, stop_of, region_of, elf_plan_by, elf_plan, Looks}
 
 pub page-granule : (m : Machine) (page : ℕ) → IsPage m page → IsGranule page
 page-granule X64 page is = inl is

@@ -3,16 +3,17 @@ ghost use Rattle.std.specs.Prelude.{◌≡◌, ◌+◌, ◌*◌, ◌≤◌, ◌<
 ghost use Rattle.ap_files.specs.Reads.{HasSize, Reads};
 ghost use Rattle.ap_fields.specs.Bytes.{over};
 ghost use Rattle.ap_elf.specs.Fields.{header_of, entries_from, entries_of};
-ghost use Rattle.ap_check.specs.Machines.{number_of};
+ghost use Rattle.ap_elf.specs.Machines.{number_of};
 ghost use Rattle.ap_image.specs.Plans.{AreBacked};
-ghost use Rattle.ap_elfmap.specs.ElfPlans.{IsPage, elf_plan, elf_plan_by};
+ghost use Rattle.ap_elf.specs.Machines.{IsPage};
+ghost use Rattle.ap_elfmap.specs.ElfPlans.{elf_plan, elf_plan_by};
 
 use crate::entries::FRONT;
 use crate::fault::fault;
 use crate::header::check_header;
 use crate::plan::plan_by;
 use crate::reading::ElfReading;
-use ap_check::Machine;
+use ap_elf::Machine;
 use ap_elf::{ElfCause, ElfFault, Entry, Header, entries, entries_in};
 use ap_files::{Failed, Files};
 use ap_image::Plan;

@@ -5,14 +5,15 @@ ghost use Rattle.ap_fields.specs.Granules.{IsGranule};
 ghost use Rattle.ap_elf.specs.Fields.{loads_in};
 ghost use Rattle.ap_elf.specs.ElfReading.{refusal, header_rules, dynamic_rules, loads_rules};
 ghost use Rattle.ap_elf.specs.declared.fault.ElfCause.TheVariants as cause;
-ghost use Rattle.ap_check.specs.Machines.{number_of};
+ghost use Rattle.ap_elf.specs.Machines.{number_of};
 ghost use Rattle.ap_image.specs.Plans.{AreBacked};
-ghost use Rattle.ap_elfmap.specs.ElfPlans.{Checks, IsPage, region_of, elf_plan_by};
+ghost use Rattle.ap_elf.specs.Machines.{IsPage};
+ghost use Rattle.ap_elfmap.specs.ElfPlans.{Checks, region_of, elf_plan_by};
 
 use crate::entries::check_dynamic;
 use crate::fault::{check, fault};
 use crate::loads::regions;
-use ap_check::Machine;
+use ap_elf::Machine;
 use ap_elf::{ElfCause, ElfFault, Entry, Header, loads};
 use ap_image::{Plan, Region};
 use arrayvec::ArrayVec;

@@ -4,17 +4,18 @@ ghost use Rattle.ap_fields.specs.Bytes.{over};
 ghost use Rattle.ap_fields.specs.Readings.{bytes_in};
 ghost use Rattle.ap_elf.specs.Fields.{header_of, entries_of};
 ghost use Rattle.ap_elf.specs.ElfReading.{elf_reading_by, elf_reading};
-ghost use Rattle.ap_check.specs.Machines.{number_of};
+ghost use Rattle.ap_elf.specs.Machines.{number_of};
 ghost use Rattle.ap_image.specs.Plans.{AreBacked};
 ghost use Rattle.ap_image.specs.Reading.{IsPlanOf};
-ghost use Rattle.ap_elfmap.specs.ElfPlans.{IsPage, Looks, elf_plan, elf_plan_by};
+ghost use Rattle.ap_elf.specs.Machines.{IsPage};
+ghost use Rattle.ap_elfmap.specs.ElfPlans.{Looks, elf_plan, elf_plan_by};
 ghost use Rattle.ap_elfmap.specs.Laws.{cells-by, frame-elf, page-granule};
 
 use crate::entries::entries_over;
 use crate::fault::fault;
 use crate::header::{check_header, header_over};
 use crate::plan::plan_by;
-use ap_check::Machine;
+use ap_elf::Machine;
 use ap_elf::{ElfCause, ElfFault};
 use ap_image::{Plan, Reading};
 

@@ -1,13 +1,14 @@
 // A small program, and what some changed fields of it break.
 ghost use Rattle.std.specs.Prelude.{◌≡◌, ℕ, List, length};
-ghost use Rattle.ap_check.specs.declared.machine.Machine.{Machine};
-ghost use Rattle.ap_check.specs.Machines.{number_of};
+ghost use Rattle.ap_elf.specs.declared.machine.Machine.{Machine};
+ghost use Rattle.ap_elf.specs.Machines.{number_of};
 ghost use Rattle.ap_elf.specs.ElfReading.{elf_reading};
 ghost use Rattle.ap_image.specs.Reading.{AgreeAt, AgreeOnPlan};
-ghost use Rattle.ap_elfmap.specs.ElfPlans.{IsPage, Looks, elf_plan};
+ghost use Rattle.ap_elf.specs.Machines.{IsPage};
+ghost use Rattle.ap_elfmap.specs.ElfPlans.{Looks, elf_plan};
 
 use crate::*;
-use ap_check::Machine;
+use ap_elf::Machine;
 use ap_files::SteadyFiles;
 use ap_image::{Perms, Reading, Region, cell, reads_alike};
 use bitflags::Flags;

@@ -2,7 +2,7 @@
 -- address.
 use Rattle.std.specs.Prelude.{◌≡◌, ℕ, ◌+◌, ◌-◌, ◌^◌, ◌<◌, ◌≤◌, ◌&&◌, nat_le, nat_lt, if◌then◌else◌, Bool, List, [], ◌∷◌, Option, Some, None}
 use Rattle.ap_fields.specs.Readings.{Cell}
-use Rattle.ap_image.specs.declared.perms.Perms.{Perms}
+use Rattle.ap_fields.specs.declared.perms.Perms.{Perms}
 use Rattle.ap_image.specs.declared.plan.Region.{Region}
 
 -- what is mapped, and where the program starts

@@ -4,7 +4,7 @@ ghost use Rattle.ap_fields.specs.Readings.{bytes_in};
 ghost use Rattle.ap_image.specs.Plans.{AreAscendingFrom, AreBacked, end_of, region_byte, cell_in, cell_of};
 ghost use Rattle.ap_image.specs.declared.plan.Region.{Region};
 
-use crate::perms::Perms;
+use ap_fields::Perms;
 use crate::plan::{Plan, Region};
 
 /// The byte and the permissions at the address `a` of a plan over a file: the byte of the file that the region of `a`

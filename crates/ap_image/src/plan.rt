@@ -1,5 +1,5 @@
 // Plans and their regions.
-use crate::perms::Perms;
+use ap_fields::Perms;
 use arrayvec::ArrayVec;
 use std::marker::Model;
 

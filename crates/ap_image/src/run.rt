@@ -4,7 +4,7 @@ ghost use Rattle.ap_image.specs.Plans.{AreAscendingFrom};
 ghost use Rattle.ap_image.specs.Runs as spec;
 ghost use Rattle.ap_image.specs.Runs.{runs_of, AreApart, perms_in, perms_at};
 
-use crate::perms::Perms;
+use ap_fields::Perms;
 use crate::plan::{Plan, Region};
 use ap_files::NoMemory;
 use std::alloc::{AllocError, Global};

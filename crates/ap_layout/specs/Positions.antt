@@ -2,7 +2,7 @@
 use Rattle.std.specs.Prelude.{◌≡◌, ℕ, ◌+◌, ◌*◌, ◌^◌, ◌<◌, ◌≤◌, List, [], ◌∷◌, ◌++◌, length, Option, Some, None}
 use Rattle.ap_fields.specs.declared.sizes.TheConstants.{BLOCK}
 use Rattle.ap_elf.specs.declared.types.Entry.{Entry}
-use Rattle.ap_check.specs.Machines.{granule_of}
+use Rattle.ap_elf.specs.Machines.{granule_of}
 use Rattle.ap_check.specs.Inputs.{Taken}
 use Rattle.ap_layout.specs.declared.layout.Area.{Area}
 use Rattle.ap_layout.specs.Areas.{areas_of, end_from, new_areas, ServeAll}

@@ -7,10 +7,10 @@ use Rattle.std.proofs.lemmas.Nat.{and_mask}
 use Rattle.std.proofs.lemmas.List.Elements.{All-tail}
 use Rattle.ap_fields.specs.Granules.{IsGranule, floor_of, ceil_of}
 use Rattle.ap_elf.specs.declared.types.Entry.{Entry}
-use Rattle.ap_check.specs.declared.machine.Machine.{Machine}
-use Rattle.ap_check.specs.declared.machine.Machine.TheVariants.{X64, A64}
+use Rattle.ap_elf.specs.declared.machine.Machine.{Machine}
+use Rattle.ap_elf.specs.declared.machine.Machine.TheVariants.{X64, A64}
 use Rattle.ap_check.specs.declared.load.Load.{Load}
-use Rattle.ap_check.specs.Machines.{granule_of, number_of}
+use Rattle.ap_elf.specs.Machines.{granule_of, number_of}
 use Rattle.ap_check.specs.Inputs.{Taken, Meets, IsLoad, AreLoads, IsTls, has_address, can_start, is_executable, in_part, has_part, is_note}
 use Rattle.ap_layout.specs.declared.layout.Area.{Area}
 use Rattle.ap_layout.specs.Positions.{entry_count, one_if}

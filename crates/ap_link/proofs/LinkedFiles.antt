@@ -17,7 +17,7 @@ use Rattle.ap_check.specs.Rules.{fault_of, rules_of}
 use Rattle.ap_check.specs.Both.{machines_rules, pair_rules, first_fault_of_both}
 use Rattle.ap_check.proofs.Laws.{input_meets}
 use Rattle.ap_check.proofs.Pairs.{pair-says}
-use Rattle.ap_check.specs.Machines.{granule_of, number_of}
+use Rattle.ap_elf.specs.Machines.{granule_of, number_of}
 use Rattle.ap_check.specs.Inputs.{Taken, Meets, input_of, taken_of, loads_of}
 use Rattle.ap_loader.specs.Embedded.{has_magic, taken}
 use Rattle.ap_loader.specs.ApeReading.{as_ape, reading_over, reading_by, ape_reading}

@@ -14,11 +14,12 @@ use Rattle.ap_elf.specs.declared.fault.ElfCause.TheVariants.{NoLoad}
 use Rattle.ap_elf.specs.Fields.{header_of, entries_of, entries_from, loads_in}
 use Rattle.ap_elf.specs.ElfReading.{refusal, header_rules, dynamic_rules, loads_rules, elf_rules, elf_reading_by, page_cell}
 use Rattle.ap_check.specs.declared.load.Load.{Load}
-use Rattle.ap_check.specs.Machines.{granule_of, number_of}
+use Rattle.ap_elf.specs.Machines.{granule_of, number_of}
 use Rattle.ap_check.specs.Inputs.{Taken, Meets, AreLoads, loads_of}
 use Rattle.ap_image.specs.Plans.{Mapping}
 use Rattle.ap_image.specs.Reading.{Shows, IsPlanOf, mapping_unless}
-use Rattle.ap_elfmap.specs.ElfPlans.{IsPage, region_of}
+use Rattle.ap_elf.specs.Machines.{IsPage}
+use Rattle.ap_elfmap.specs.ElfPlans.{region_of}
 use Rattle.ap_elfmap.specs.Laws.{cells-by}
 use Rattle.ap_layout.specs.declared.layout.Area.{Area}
 use Rattle.ap_layout.specs.Positions.{entry_count}

@@ -7,10 +7,10 @@ use Rattle.ap_claims.specs.Files.{IsFile, Agree}
 use Rattle.ap_elf.specs.Fields.{header_of, entries_of, loads_in}
 use Rattle.ap_elf.specs.ElfReading.{elf_reading}
 use Rattle.ap_check.specs.declared.options.Systems.{Systems}
-use Rattle.ap_check.specs.Machines.{granule_of, number_of}
+use Rattle.ap_elf.specs.Machines.{granule_of, number_of}
 use Rattle.ap_check.specs.Inputs.{Taken, input_of}
 use Rattle.ap_check.specs.Both.{first_fault_of_both}
-use Rattle.ap_elfmap.specs.ElfPlans.{IsPage}
+use Rattle.ap_elf.specs.Machines.{IsPage}
 use Rattle.ap_octal.specs.Embedded.{Opens}
 use Rattle.ap_octal.specs.Statement.{statement_of}
 use Rattle.ap_loader.specs.ApeReading.{ape_reading}

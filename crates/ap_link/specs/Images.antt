@@ -4,11 +4,11 @@ use Rattle.ap_fields.specs.Bytes.{over}
 use Rattle.ap_elf.specs.declared.types.Entry.{Entry}
 use Rattle.ap_elf.specs.Fields.{loads_in}
 use Rattle.ap_elf.specs.ElfReading.{elf_reading}
-use Rattle.ap_check.specs.Machines.{granule_of, number_of}
+use Rattle.ap_elf.specs.Machines.{granule_of, number_of}
 use Rattle.ap_check.specs.Inputs.{Taken}
 use Rattle.ap_layout.specs.declared.layout.Area.{Area}
 use Rattle.ap_script.specs.Tables.{embedded_bytes}
-use Rattle.ap_elfmap.specs.ElfPlans.{IsPage}
+use Rattle.ap_elf.specs.Machines.{IsPage}
 use Rattle.ap_loader.specs.ApeReading.{reading_over}
 use Rattle.ap_link.specs.Same.{Same}
 use Rattle.ap_link.specs.LinkedIn.{IsLinkedIn}

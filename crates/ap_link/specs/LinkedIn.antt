@@ -4,7 +4,7 @@ use Rattle.ap_fields.specs.Bytes.{Holds}
 use Rattle.ap_fields.specs.declared.sizes.TheConstants.{BLOCK}
 use Rattle.ap_elf.specs.declared.types.Entry.{Entry}
 use Rattle.ap_check.specs.declared.load.Load.{Load}
-use Rattle.ap_check.specs.Machines.{granule_of}
+use Rattle.ap_elf.specs.Machines.{granule_of}
 use Rattle.ap_check.specs.Inputs.{Taken, Meets, loads_of}
 use Rattle.ap_layout.specs.declared.layout.Area.{Area}
 use Rattle.ap_layout.specs.Areas.{content_of, no_area}

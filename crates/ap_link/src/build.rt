@@ -3,7 +3,7 @@ ghost use Rattle.std.specs.Prelude.{◌≡◌, ◌<◌, ◌^◌, ◌++◌, lengt
 ghost use Rattle.ap_claims.specs.Blocks.{free_block};
 ghost use Rattle.ap_claims.specs.Files.{IsFilled};
 ghost use Rattle.ap_check.specs.Inputs.{Meets};
-ghost use Rattle.ap_check.specs.Machines.{granule_of};
+ghost use Rattle.ap_elf.specs.Machines.{granule_of};
 ghost use Rattle.ap_layout.specs.Positions.{positions_of, input_areas};
 ghost use Rattle.ap_script.specs.Claims.{block_claims};
 ghost use Rattle.ap_script.specs.Jobs.{job_inputs};

@@ -1,15 +1,15 @@
 // The reading of APE files by their names.
 ghost use Rattle.std.specs.Prelude.{◌≡◌, IfOk};
 ghost use Rattle.ap_files.specs.Reads.{HasSize, Reads};
-ghost use Rattle.ap_check.specs.Machines.{number_of};
+ghost use Rattle.ap_elf.specs.Machines.{number_of};
 ghost use Rattle.ap_image.specs.Plans.{AreBacked};
-ghost use Rattle.ap_elfmap.specs.ElfPlans.{IsPage};
+ghost use Rattle.ap_elf.specs.Machines.{IsPage};
 ghost use Rattle.ap_loader.specs.ApeReading as spec;
 ghost use Rattle.ap_loader.specs.ApeReading.{ape_plan};
 
 use crate::fault::ApeFault;
 use crate::reading::{ApeReading, header_for};
-use ap_check::Machine;
+use ap_elf::Machine;
 use ap_elfmap::read_with_in;
 use ap_fields::WINDOW;
 use ap_files::{Failed, Files};

@@ -1,11 +1,11 @@
 // Headers that a file embeds.
 ghost use Rattle.std.specs.Prelude.{◌≡◌, take};
 ghost use Rattle.ap_octal.specs.Embedded.{Opens};
-ghost use Rattle.ap_check.specs.Machines.{number_of};
+ghost use Rattle.ap_elf.specs.Machines.{number_of};
 ghost use Rattle.ap_loader.specs.Embedded as spec;
 ghost use Rattle.ap_loader.specs.Embedded.{taken};
 
-use ap_check::Machine;
+use ap_elf::Machine;
 use ap_fields::{WINDOW, le16};
 use ap_octal::{decode_at, statements};
 

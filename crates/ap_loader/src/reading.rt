@@ -1,7 +1,7 @@
 // The reading of APE files.
 ghost use Rattle.std.specs.Prelude.{◌≡◌};
-ghost use Rattle.ap_check.specs.Machines.{number_of};
-ghost use Rattle.ap_elfmap.specs.ElfPlans.{IsPage};
+ghost use Rattle.ap_elf.specs.Machines.{number_of};
+ghost use Rattle.ap_elf.specs.Machines.{IsPage};
 ghost use Rattle.ap_elfmap.specs.Laws.{page-granule};
 ghost use Rattle.ap_loader.specs.ApeReading as spec;
 ghost use Rattle.ap_loader.specs.ApeReading.{ape_reading, ape_plan, Looks};
@@ -9,7 +9,7 @@ ghost use Rattle.ap_loader.specs.Laws.{cells-ape, frame-ape};
 
 use crate::fault::ApeFault;
 use crate::header::{embedded, has_magic};
-use ap_check::Machine;
+use ap_elf::Machine;
 use ap_elfmap::read_with;
 use ap_image::{Plan, Reading};
 

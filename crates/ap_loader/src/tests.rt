@@ -1,6 +1,6 @@
 // Files of other tools: statements that spell bytes in other ways, places at the window's edge, and what a loader takes.
 use crate::*;
-use ap_check::Machine;
+use ap_elf::Machine;
 use ap_elfmap::{ElfCause, ElfFault};
 use ap_files::SteadyFiles;
 use ap_image::{Perms, Reading, Region};

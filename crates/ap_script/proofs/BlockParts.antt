@@ -7,7 +7,7 @@ use Rattle.ap_fields.specs.Bytes.{zeros, Holds}
 use Rattle.ap_fields.proofs.Bytes.{length-zeros, holds-part}
 use Rattle.ap_loader.specs.Embedded.{has_magic}
 use Rattle.ap_check.specs.declared.options.Systems.{Systems}
-use Rattle.ap_check.specs.declared.machine.Machine.TheVariants.{X64, A64}
+use Rattle.ap_elf.specs.declared.machine.Machine.TheVariants.{X64, A64}
 use Rattle.ap_check.specs.Inputs.{Taken}
 use Rattle.ap_layout.specs.Areas.{new_areas}
 use Rattle.ap_layout.specs.Positions.{Positions, Fits, joined, tables_start}

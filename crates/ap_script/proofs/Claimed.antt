@@ -6,8 +6,8 @@ use Rattle.ap_claims.specs.declared.owner.Owner.TheVariants.{Shell, Ape, Elf}
 use Rattle.ap_claims.specs.Lists.{Claim, Among}
 use Rattle.ap_claims.specs.Files.{IsFile}
 use Rattle.ap_claims.proofs.Growing.{IsFrom, no-text, front-claim, front-zeros, no-file, joined-file, added-file, turned-file, among-either, among-front, among-behind}
-use Rattle.ap_check.specs.declared.machine.Machine.{Machine}
-use Rattle.ap_check.specs.declared.machine.Machine.TheVariants.{X64, A64}
+use Rattle.ap_elf.specs.declared.machine.Machine.{Machine}
+use Rattle.ap_elf.specs.declared.machine.Machine.TheVariants.{X64, A64}
 use Rattle.ap_check.specs.declared.options.Systems.{Systems}
 use Rattle.ap_check.specs.Inputs.{Taken}
 use Rattle.ap_layout.specs.declared.layout.Area.{Area}

@@ -14,9 +14,9 @@ use Rattle.ap_elf.specs.Written.{header_bytes}
 use Rattle.ap_octal.specs.Statement.{is_letter, octal_of, octals_of, statement_of}
 use Rattle.ap_loader.specs.Embedded.{begins_header}
 use Rattle.ap_check.specs.declared.options.Systems.{Systems}
-use Rattle.ap_check.specs.declared.machine.Machine.{Machine}
-use Rattle.ap_check.specs.declared.machine.Machine.TheVariants.{X64, A64}
-use Rattle.ap_check.specs.Machines.{number_of}
+use Rattle.ap_elf.specs.declared.machine.Machine.{Machine}
+use Rattle.ap_elf.specs.declared.machine.Machine.TheVariants.{X64, A64}
+use Rattle.ap_elf.specs.Machines.{number_of}
 use Rattle.ap_check.specs.Inputs.{Taken}
 use Rattle.ap_layout.specs.Positions.{entry_count}
 use Rattle.ap_script.specs.Tables.{embedded_header, embedded_bytes}

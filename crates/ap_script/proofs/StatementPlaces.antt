@@ -10,8 +10,8 @@ use Rattle.ap_octal.specs.OctalText.{IsOctal}
 use Rattle.ap_octal.specs.Statement.{octals_of, statement_of}
 use Rattle.ap_octal.proofs.OctalLemmas.{octal-bytes}
 use Rattle.ap_check.specs.declared.options.Systems.{Systems}
-use Rattle.ap_check.specs.declared.machine.Machine.{Machine}
-use Rattle.ap_check.specs.declared.machine.Machine.TheVariants.{X64, A64}
+use Rattle.ap_elf.specs.declared.machine.Machine.{Machine}
+use Rattle.ap_elf.specs.declared.machine.Machine.TheVariants.{X64, A64}
 use Rattle.ap_check.specs.Inputs.{Taken, Meets}
 use Rattle.ap_layout.specs.Positions.{Positions, Fits}
 use Rattle.ap_script.specs.Script.{machine_start, machine_lines, script_of, header_for}

@@ -8,7 +8,7 @@ use Rattle.ap_fields.proofs.Bytes.{holds-part}
 use Rattle.ap_elf.specs.declared.types.Entry.{Entry}
 use Rattle.ap_elf.specs.Written.{entry_bytes, table_bytes}
 use Rattle.ap_check.specs.declared.load.Load.{Load}
-use Rattle.ap_check.specs.Machines.{granule_of}
+use Rattle.ap_elf.specs.Machines.{granule_of}
 use Rattle.ap_check.specs.Inputs.{Taken}
 use Rattle.ap_layout.specs.declared.layout.Area.{Area}
 use Rattle.ap_layout.specs.Areas.{ServeAll}

@@ -15,9 +15,9 @@ use Rattle.ap_octal.specs.Statement.{octals_of, statement_of}
 use Rattle.ap_loader.specs.Embedded.{before_quote, header_in, header_at, taken}
 use Rattle.ap_loader.proofs.HeaderLemmas.{header_at-embeds, header_at-closed, taken-some, taken-none, opens-within}
 use Rattle.ap_check.specs.declared.options.Systems.{Systems}
-use Rattle.ap_check.specs.declared.machine.Machine.{Machine}
-use Rattle.ap_check.specs.declared.machine.Machine.TheVariants.{X64, A64}
-use Rattle.ap_check.specs.Machines.{number_of}
+use Rattle.ap_elf.specs.declared.machine.Machine.{Machine}
+use Rattle.ap_elf.specs.declared.machine.Machine.TheVariants.{X64, A64}
+use Rattle.ap_elf.specs.Machines.{number_of}
 use Rattle.ap_check.specs.Inputs.{Taken, Meets}
 use Rattle.ap_layout.specs.Positions.{Positions, Fits, AreTables, table_length, tables_start}
 use Rattle.ap_script.specs.Tables.{embedded_bytes}

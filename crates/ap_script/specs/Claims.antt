@@ -6,7 +6,7 @@ use Rattle.ap_claims.specs.declared.owner.Owner.TheVariants.{Shell, Ape, Elf}
 use Rattle.ap_claims.specs.Lists.{Claim}
 use Rattle.ap_claims.specs.Files.{IsFile}
 use Rattle.ap_octal.specs.Statement.{statement_of}
-use Rattle.ap_check.specs.declared.machine.Machine.TheVariants.{X64, A64}
+use Rattle.ap_elf.specs.declared.machine.Machine.TheVariants.{X64, A64}
 use Rattle.ap_check.specs.declared.options.Systems.{Systems}
 use Rattle.ap_check.specs.Inputs.{Taken}
 use Rattle.ap_layout.specs.declared.layout.Area.{Area}

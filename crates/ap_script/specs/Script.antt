@@ -7,8 +7,8 @@ use Rattle.std.specs.Option.{is_some}
 use Rattle.std.specs.Fmt.{decimal}
 use Rattle.ap_octal.specs.Statement.{statement_of}
 use Rattle.ap_check.specs.declared.options.Systems.{Systems}
-use Rattle.ap_check.specs.declared.machine.Machine.{Machine}
-use Rattle.ap_check.specs.declared.machine.Machine.TheVariants.{X64, A64}
+use Rattle.ap_elf.specs.declared.machine.Machine.{Machine}
+use Rattle.ap_elf.specs.declared.machine.Machine.TheVariants.{X64, A64}
 use Rattle.ap_check.specs.Inputs.{Taken}
 use Rattle.ap_script.specs.Tables.{embedded_bytes}
 

@@ -1,7 +1,7 @@
 // What stands behind the here-document's body.
 ghost use Rattle.std.specs.Prelude.{◌≡◌, ◌+◌, ◌-◌, ◌≤◌, ◌++◌, length};
 ghost use Rattle.ap_fields.specs.declared.sizes.TheConstants.{WINDOW};
-ghost use Rattle.ap_check.specs.declared.machine.Machine.TheVariants.{X64, A64};
+ghost use Rattle.ap_elf.specs.declared.machine.Machine.TheVariants.{X64, A64};
 ghost use Rattle.ap_layout.specs.Positions.{Fits};
 ghost use Rattle.ap_script.specs.Blocks.{closing, spaces, body_of, ending_of};
 ghost use Rattle.ap_script.specs.Delimiter.{delimiter_number};

@@ -3,7 +3,7 @@ ghost use Rattle.std.specs.Prelude.{◌≡◌, ◌+◌, ◌≤◌, ◌++◌, len
 ghost use Rattle.std.specs.Fmt.{decimal};
 ghost use Rattle.ap_fields.specs.declared.sizes.TheConstants.{WINDOW};
 ghost use Rattle.ap_octal.specs.Statement.{statement_of};
-ghost use Rattle.ap_check.specs.declared.machine.Machine.TheVariants.{X64, A64};
+ghost use Rattle.ap_elf.specs.declared.machine.Machine.TheVariants.{X64, A64};
 ghost use Rattle.ap_script.specs.Script.{script_of, script_start, dd_line, darwin_x64_lines, darwin_lines, system_lines, system_line, chosen_test, or_tests, kernels_of, machine_start, machine_lines, machine_end, script_end};
 
 use crate::text::{Text, push_text};

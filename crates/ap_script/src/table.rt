@@ -1,6 +1,6 @@
 // The program header table that the linker writes for an input.
 ghost use Rattle.std.specs.Prelude.{◌≡◌, ◌+◌, ◌≤◌, ◌<◌, ◌^◌, ◌++◌, [], ◌∷◌, Some, length, map, All};
-ghost use Rattle.ap_check.specs.Machines.{granule_of};
+ghost use Rattle.ap_elf.specs.Machines.{granule_of};
 ghost use Rattle.ap_script.specs.Tables as spec;
 ghost use Rattle.ap_script.specs.Tables.{load_entries, stack_entries, tls_entries, table_of};
 ghost use Rattle.ap_script.specs.Places.{Placed};

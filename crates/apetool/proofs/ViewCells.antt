@@ -5,15 +5,16 @@ use Rattle.std.specs.Option.{option_map, option_and_then}
 use Rattle.std.proofs.lemmas.Bool.Decides.{nat_tests}
 use Rattle.std.proofs.lemmas.Bool.{cases_Bool}
 use Rattle.ap_fields.specs.Readings.{MemoryImage}
-use Rattle.ap_check.specs.declared.machine.Machine.{Machine}
-use Rattle.ap_check.specs.declared.machine.Machine.TheVariants.{X64, A64}
-use Rattle.ap_check.specs.Machines.{number_of, granule_of}
+use Rattle.ap_elf.specs.declared.machine.Machine.{Machine}
+use Rattle.ap_elf.specs.declared.machine.Machine.TheVariants.{X64, A64}
+use Rattle.ap_elf.specs.Machines.{number_of, granule_of}
 use Rattle.ap_elf.specs.declared.fault.ElfFault.{ElfFault}
 use Rattle.ap_elf.specs.ElfReading.{elf_reading}
 use Rattle.ap_elf.specs.Fields.{header_of, entries_of}
 use Rattle.ap_image.specs.Plans.{Mapping}
 use Rattle.ap_image.specs.Reading.{IsPlanOf}
-use Rattle.ap_elfmap.specs.ElfPlans.{IsPage, elf_plan}
+use Rattle.ap_elf.specs.Machines.{IsPage}
+use Rattle.ap_elfmap.specs.ElfPlans.{elf_plan}
 use Rattle.ap_elfmap.specs.Laws.{cells-by, page-granule}
 use Rattle.ap_loader.specs.declared.fault.ApeFault.{ApeFault}
 use Rattle.ap_loader.specs.ApeReading.{ape_reading, ape_plan}

@@ -1,8 +1,8 @@
 -- The formats that files are read by, and what a file is by a format.
 use Rattle.std.specs.Prelude.{ℕ, ◌^◌, ◌==◌, ◌||◌, nat_lt, if◌then◌else◌, Bool, List, length, Result, Ok, Err}
-use Rattle.ap_check.specs.declared.machine.Machine.{Machine}
-use Rattle.ap_check.specs.declared.machine.Machine.TheVariants.{X64, A64}
-use Rattle.ap_check.specs.Machines.{number_of}
+use Rattle.ap_elf.specs.declared.machine.Machine.{Machine}
+use Rattle.ap_elf.specs.declared.machine.Machine.TheVariants.{X64, A64}
+use Rattle.ap_elf.specs.Machines.{number_of}
 use Rattle.ap_elf.specs.declared.fault.ElfFault.{ElfFault}
 use Rattle.ap_loader.specs.declared.fault.ApeFault.{ApeFault}
 use Rattle.ap_fields.specs.Readings.{MemoryImage}

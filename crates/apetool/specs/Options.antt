@@ -3,9 +3,9 @@
 use Rattle.std.specs.Prelude.{ℕ, if◌then◌else◌, ◌&&◌, ◌||◌, not, Bool, true, is_some, is_none, unwrap_or, List, [], ◌∷◌, codes, Option, Some, None}
 use Rattle.std.specs.Option.{option_map, option_and_then}
 use Rattle.std.specs.Str.{bytes_eq}
-use Rattle.ap_check.specs.declared.machine.Machine.{Machine}
-use Rattle.ap_check.specs.declared.machine.Machine.TheVariants.{X64, A64}
-use Rattle.ap_check.specs.Machines.{granule_of}
+use Rattle.ap_elf.specs.declared.machine.Machine.{Machine}
+use Rattle.ap_elf.specs.declared.machine.Machine.TheVariants.{X64, A64}
+use Rattle.ap_elf.specs.Machines.{granule_of}
 use Rattle.apetool.specs.declared.format.Form.{Form}
 use Rattle.apetool.specs.declared.format.Form.TheVariants.{Ape, Elf}
 use Rattle.apetool.specs.declared.format.Format.{Format}

@@ -1,6 +1,6 @@
 // Files that are shown and dumped.
 ghost use Rattle.std.specs.Prelude.{◌≡◌, length};
-ghost use Rattle.ap_elfmap.specs.ElfPlans.{IsPage};
+ghost use Rattle.ap_elf.specs.Machines.{IsPage};
 ghost use Rattle.ap_image.specs.Plans.{AreBacked};
 ghost use Rattle.apetool.specs.Dumps.{PartsAnswer, MakesParts, DumpEnds, Pictures};
 

@@ -1,7 +1,7 @@
 // The formats that files are read by.
 ghost use Rattle.std.specs.Prelude.{◌≡◌, IfOk, IsTrue};
 ghost use Rattle.ap_files.specs.Reads.{HasSize, Reads};
-ghost use Rattle.ap_elfmap.specs.ElfPlans.{IsPage};
+ghost use Rattle.ap_elf.specs.Machines.{IsPage};
 ghost use Rattle.ap_image.specs.Plans.{AreBacked};
 ghost use Rattle.apetool.specs.Formats as spec;
 ghost use Rattle.apetool.specs.Formats.{plan_in};

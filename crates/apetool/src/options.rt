@@ -1,7 +1,7 @@
 // The words of a command that shows a file: its options in any order, each with its value behind it, and the file.
 ghost use Rattle.std.specs.Prelude.{◌≡◌, IfSome};
 ghost use Rattle.std.specs.Option.{option_map, option_copied};
-ghost use Rattle.ap_elfmap.specs.ElfPlans.{IsPage};
+ghost use Rattle.ap_elf.specs.Machines.{IsPage};
 ghost use Rattle.apetool.specs.Words.{texts_of};
 ghost use Rattle.apetool.specs.Options as spec;
 

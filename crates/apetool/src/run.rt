@@ -3,7 +3,7 @@ ghost use Rattle.std.specs.Prelude.{◌≡◌, ◌≢◌, ℕ, List, Some, IfSom
 ghost use Rattle.apetool.specs.Words.{link_names, texts_of};
 ghost use Rattle.apetool.specs.Ends.{LinkEnds, ViewEnds, RunEnds, IsComplete, status_of};
 ghost use Rattle.std.specs.Option.{option_copied};
-ghost use Rattle.ap_elfmap.specs.ElfPlans.{IsPage};
+ghost use Rattle.ap_elf.specs.Machines.{IsPage};
 ghost use Rattle.ap_image.specs.Reading.{IsPlanOf};
 ghost use Rattle.apetool.specs.Formats.{plan_in, reading_in};
 ghost use Rattle.apetool.specs.Options.{View as WordsView, view_in};

@@ -1,5 +1,5 @@
 // Files that are shown.
-ghost use Rattle.ap_elfmap.specs.ElfPlans.{IsPage};
+ghost use Rattle.ap_elf.specs.Machines.{IsPage};
 ghost use Rattle.apetool.specs.Shows.{Answers, Ends, Makes, Printed};
 
 use crate::end::Cause;

@@ -1,5 +1,5 @@
 use Rattle.std.proofs.Common.{◌∙◌, refl, arith}
-use Rattle.ap_check.specs.Machines.{number_of}
+use Rattle.ap_elf.specs.Machines.{number_of}
 use Rattle.ap_files.proofs.ReadLemmas.{told_of}
 use Rattle.ap_elfmap.proofs.Named.{refused-named, planned-named}
 use Rattle.ap_elfmap.proofs.file.read_with_in.Goals as goal

@@ -1,4 +1,4 @@
-use Rattle.ap_check.specs.Machines.{number_of}
+use Rattle.ap_elf.specs.Machines.{number_of}
 use Rattle.ap_elfmap.specs.Laws.{page-granule}
 use Rattle.ap_elfmap.proofs.Planned.{rules-hold, planned-ascends, planned-backed}
 use Rattle.ap_elfmap.proofs.plan.plan_by.Goals as goal

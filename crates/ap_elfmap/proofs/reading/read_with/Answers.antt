@@ -4,7 +4,7 @@ use Rattle.ap_fields.specs.Bytes.{over}
 use Rattle.ap_fields.specs.Readings.{bytes_in}
 use Rattle.ap_elf.specs.Fields.{header_of, entries_of}
 use Rattle.ap_elf.specs.ElfReading.{elf_reading_by}
-use Rattle.ap_check.specs.Machines.{number_of}
+use Rattle.ap_elf.specs.Machines.{number_of}
 use Rattle.ap_image.specs.Reading.{IsPlanOf}
 use Rattle.ap_elfmap.specs.ElfPlans.{elf_plan_by}
 use Rattle.ap_elfmap.specs.Laws.{page-granule, cells-by}

@@ -1,5 +1,5 @@
 use Rattle.std.proofs.Common.{ap, ◌∙◌, subst}
-use Rattle.ap_check.specs.Machines.{granule_of}
+use Rattle.ap_elf.specs.Machines.{granule_of}
 use Rattle.ap_check.specs.Inputs.{Taken, Meets}
 use Rattle.ap_link.proofs.LaidAreas.{placed-count, placed-next}
 use Rattle.ap_link.proofs.make.put_input.Goals as goal

@@ -1,6 +1,6 @@
 use Rattle.std.proofs.Common.{◌∙◌, ap, take, arith}
 use Rattle.std.proofs.lemmas.List.{length-take-le}
-use Rattle.ap_check.specs.Machines.{number_of}
+use Rattle.ap_elf.specs.Machines.{number_of}
 use Rattle.ap_files.proofs.ReadLemmas.{same_state, told_of}
 use Rattle.ap_loader.proofs.HeaderPlans.{header_for-window}
 use Rattle.ap_loader.proofs.file.header_in.Goals as goal

@@ -1,5 +1,5 @@
 use Rattle.std.proofs.Common.{sym, ◌∙◌, arith}
-use Rattle.ap_check.specs.Machines.{number_of}
+use Rattle.ap_elf.specs.Machines.{number_of}
 use Rattle.ap_loader.proofs.HeaderLemmas.{taken-no_magic, taken-some, taken-none, none-before, none-more, none-all, opens-within}
 use Rattle.ap_loader.proofs.header.embedded.Goals as goal
 

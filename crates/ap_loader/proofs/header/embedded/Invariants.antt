@@ -1,6 +1,6 @@
 use Rattle.std.proofs.Common.{◌≡◌, ℕ, ◌-◌, ◌<◌, ◌≤◌, take, None}
 use Rattle.ap_fields.specs.declared.sizes.TheConstants.{WINDOW}
-use Rattle.ap_check.specs.Machines.{number_of}
+use Rattle.ap_elf.specs.Machines.{number_of}
 use Rattle.ap_loader.specs.Embedded as spec
 use Rattle.ap_loader.proofs.header.embedded.Given as goal
 

@@ -1,5 +1,5 @@
 use Rattle.std.proofs.Common.{sym, ap, ◌∙◌, cond, Some, None}
-use Rattle.ap_check.specs.Machines.{number_of}
+use Rattle.ap_elf.specs.Machines.{number_of}
 use Rattle.ap_loader.proofs.HeaderLemmas.{header_at-embeds, header_at-nothing}
 use Rattle.ap_loader.proofs.header.header_at.Goals as goal
 

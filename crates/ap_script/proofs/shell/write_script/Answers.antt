@@ -4,7 +4,7 @@ use Rattle.ap_claims.specs.declared.owner.Owner.TheVariants.{Shell, Ape}
 use Rattle.ap_claims.specs.Blocks.{BlockState}
 use Rattle.ap_claims.specs.Lists.{Makes}
 use Rattle.ap_claims.proofs.Writers.{stopped-writer, next-writer}
-use Rattle.ap_check.specs.declared.machine.Machine.TheVariants.{X64, A64}
+use Rattle.ap_elf.specs.declared.machine.Machine.TheVariants.{X64, A64}
 use Rattle.ap_script.specs.Blocks.{magic, magic_line, opening_line, body_of, ending_of}
 use Rattle.ap_script.specs.Delimiter.{delimiter_number}
 use Rattle.ap_script.specs.Script.{header_for}

@@ -1,5 +1,5 @@
 use Rattle.std.proofs.Common.{ap, ◌∙◌, subst}
-use Rattle.ap_check.specs.Machines.{granule_of}
+use Rattle.ap_elf.specs.Machines.{granule_of}
 use Rattle.ap_check.specs.Inputs.{Meets}
 use Rattle.ap_script.proofs.Fitting.{placed-input}
 use Rattle.ap_script.proofs.table.table.Goals as goal

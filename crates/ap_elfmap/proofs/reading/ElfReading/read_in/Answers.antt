@@ -1,5 +1,5 @@
 use Rattle.std.proofs.Common.{arith}
-use Rattle.ap_check.specs.Machines.{number_of}
+use Rattle.ap_elf.specs.Machines.{number_of}
 use Rattle.ap_files.proofs.ReadLemmas.{same_state, told_of}
 use Rattle.ap_elfmap.proofs.Named.{reads-behind, own-named}
 use Rattle.ap_elfmap.proofs.reading.ElfReading.read_in.Goals as goal

@@ -1,7 +1,7 @@
 use Rattle.std.proofs.Common.{◌≡◌, sym, ap, ◌∙◌, arith}
 use Rattle.std.proofs.lemmas.Grind.{common_steps}
 use Rattle.ap_files.specs.Files.{FileState}
-use Rattle.ap_check.specs.Machines.{number_of}
+use Rattle.ap_elf.specs.Machines.{number_of}
 use Rattle.ap_loader.specs.ApeReading.{as_ape}
 use Rattle.ap_loader.proofs.HeaderPlans.{plan-refused, plan-headed}
 use Rattle.ap_loader.proofs.reading.ApeReading.read_in.Goals as goal

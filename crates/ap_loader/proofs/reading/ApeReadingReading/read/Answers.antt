@@ -1,6 +1,6 @@
 use Rattle.std.proofs.Common.{◌≡◌, sym, ◌∙◌, arith}
 use Rattle.std.proofs.lemmas.Grind.{common_steps}
-use Rattle.ap_check.specs.Machines.{number_of}
+use Rattle.ap_elf.specs.Machines.{number_of}
 use Rattle.ap_elfmap.specs.Laws.{page-granule}
 use Rattle.ap_loader.specs.ApeReading.{as_ape, plan_over}
 use Rattle.ap_loader.proofs.HeaderPlans.{plan-refused, plan-headed, plan-image}

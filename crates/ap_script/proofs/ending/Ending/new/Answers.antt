@@ -1,5 +1,5 @@
 use Rattle.std.proofs.Common.{◌/◌, length, ap, sym, arith}
-use Rattle.ap_check.specs.declared.machine.Machine.TheVariants.{X64, A64}
+use Rattle.ap_elf.specs.declared.machine.Machine.TheVariants.{X64, A64}
 use Rattle.ap_script.specs.Jobs.{job_inputs}
 use Rattle.ap_script.specs.Script.{machine_lines, header_for}
 use Rattle.ap_script.proofs.Endings.{place-room, script-behind, ending-short, ending-made, ending-long, lines-are}

@@ -1,6 +1,6 @@
 // The machines that programs are for.
 ghost use Rattle.std.specs.Prelude.{◌≡◌};
-ghost use Rattle.ap_check.specs.Machines.{granule_of, number_of};
+ghost use Rattle.ap_elf.specs.Machines.{granule_of, number_of};
 
 /// A machine that a program is for.
 #[derive(Clone, Copy, Debug, PartialEq, Eq)]
