@@ -6,6 +6,7 @@ use Rattle.ap_fields.proofs.FirstFaults.{none-append, some-append, append-none}
 use Rattle.ap_elf.specs.declared.types.Header.{Header}
 use Rattle.ap_elf.specs.Fields.{header_of, entries_of}
 use Rattle.ap_check.specs.declared.fault.Fault.{Fault}
+use Rattle.ap_check.specs.declared.options.Options.{Options}
 use Rattle.ap_elf.specs.declared.machine.Machine.TheVariants.{X64, A64}
 use Rattle.ap_elf.specs.Machines.{number_of}
 use Rattle.ap_check.specs.Rules.{Checks, size_rules, ident_rules, field_rules, header_rules, table_rules, bare_rules, symbols_rules, input_rules, rules_of, first_fault_of}
@@ -39,29 +40,29 @@ unfolding input_of taken_of
 number-taken n b i is = ap (λ (x : Taken). number_of x.machine) is.1 ∙ number-header n b is.0
 
 -- input 1 breaks a rule, whatever the other is
-pub first-breaks : (a : List ℕ) (b : Option (List ℕ)) (f : Fault) → first_fault_of 1 a ≡ Some f → first_fault_of_both a b ≡ Some f
-first-breaks a None f h = h
-first-breaks a (Some b) f h = some-append (rules_of 1 a) (rules_of 2 b ++ machines_rules (header_of a).e_machine (header_of b).e_machine) f h
+pub first-breaks : (options : Options) (a : List ℕ) (b : Option (List ℕ)) (f : Fault) → first_fault_of 1 a ≡ Some f → first_fault_of_both options a b ≡ Some f
+first-breaks options a None f h = h
+first-breaks options a (Some b) f h = some-append (rules_of 1 a) (rules_of 2 b ++ machines_rules (header_of a).e_machine (header_of b).e_machine) f h
 
 -- input 2 breaks a rule
-pub second-breaks : (a b : List ℕ) (f : Fault) → first_fault_of 1 a ≡ None → first_fault_of 2 b ≡ Some f → first_fault_of_both a (Some b) ≡ Some f
-second-breaks a b f none h =
+pub second-breaks : (options : Options) (a b : List ℕ) (f : Fault) → first_fault_of 1 a ≡ None → first_fault_of 2 b ≡ Some f → first_fault_of_both options a (Some b) ≡ Some f
+second-breaks options a b f none h =
     none-append (rules_of 1 a) (rules_of 2 b ++ machines_rules (header_of a).e_machine (header_of b).e_machine) none
     ∙ some-append (rules_of 2 b) (machines_rules (header_of a).e_machine (header_of b).e_machine) f h
 
 -- neither does: what was taken tells
-pub pair-says : (a : List ℕ) (b : Option (List ℕ)) (first : Taken) (second : Option Taken) → AreTakenOf a b first second → first_fault_of_both a b ≡ first_fault (pair_rules first second)
-pair-says a None first None are = are.0
-pair-says a None first (Some second) are = absurd are
-pair-says a (Some b) first None are = absurd are
-pair-says a (Some b) first (Some second) are =
+pub pair-says : (options : Options) (a : List ℕ) (b : Option (List ℕ)) (first : Taken) (second : Option Taken) → AreTakenOf a b first second → first_fault_of_both options a b ≡ first_fault (pair_rules options first second)
+pair-says options a None first None are = are.0
+pair-says options a None first (Some second) are = absurd are
+pair-says options a (Some b) first None are = absurd are
+pair-says options a (Some b) first (Some second) are =
     none-append (rules_of 1 a) (rules_of 2 b ++ machines_rules (header_of a).e_machine (header_of b).e_machine) are.0.0
     ∙ none-append (rules_of 2 b) (machines_rules (header_of a).e_machine (header_of b).e_machine) are.1.0
     ∙ ap (λ x. first_fault (machines_rules x (header_of b).e_machine)) (sym (number-taken 1 a first are.0))
     ∙ ap (λ x. first_fault (machines_rules (number_of first.machine) x)) (sym (number-taken 2 b second are.1))
 
 -- and so does a check of it
-pub checks-both : {T : Type 0} (a : List ℕ) (b : Option (List ℕ)) (first : Taken) (second : Option Taken) (result : Result T Fault) → AreTakenOf a b first second
-    → Checks result (pair_rules first second) → Checks result (rules_of_both a b)
-checks-both a b first second (Ok v) are says = pair-says a b first second are ∙ says
-checks-both a b first second (Err f) are says = pair-says a b first second are ∙ says
+pub checks-both : {T : Type 0} (options : Options) (a : List ℕ) (b : Option (List ℕ)) (first : Taken) (second : Option Taken) (result : Result T Fault) → AreTakenOf a b first second
+    → Checks result (pair_rules options first second) → Checks result (rules_of_both options a b)
+checks-both options a b first second (Ok v) are says = pair-says options a b first second are ∙ says
+checks-both options a b first second (Err f) are says = pair-says options a b first second are ∙ says

@@ -3,6 +3,7 @@ use Rattle.std.specs.Prelude.{◌≡◌, ℕ, ◌==◌, not, List, [], ◌∷◌
 use Rattle.ap_fields.specs.FirstFault.{Rules, first_fault}
 use Rattle.ap_elf.specs.Fields.{header_of}
 use Rattle.ap_check.specs.declared.fault.Fault.{Fault}
+use Rattle.ap_check.specs.declared.options.Options.{Options}
 use Rattle.ap_elf.specs.Machines.{number_of}
 use Rattle.ap_check.specs.Rules.{fault_of, rules_of, first_fault_of}
 use Rattle.ap_check.specs.Inputs.{Taken, input_of}
@@ -12,19 +13,23 @@ abbrev pub machines_rules : ℕ → ℕ → Rules Fault
 machines_rules first second = (not (first == second), fault_of 2 23 0 second) ∷ []
 
 -- rule 23 of what was taken
-abbrev pub pair_rules : Taken → Option Taken → Rules Fault
-pair_rules first None = []
-pair_rules first (Some second) = machines_rules (number_of first.machine) (number_of second.machine)
+abbrev pub taken_machines_rules : Taken → Option Taken → Rules Fault
+taken_machines_rules first None = []
+taken_machines_rules first (Some second) = machines_rules (number_of first.machine) (number_of second.machine)
+
+-- the rules of the inputs that were taken and of the options together: rule 23, so far
+abbrev pub pair_rules : Options → Taken → Option Taken → Rules Fault
+pair_rules options first second = taken_machines_rules first second
 
 -- rules 1 to 23, by the bytes of the inputs: all of input 1 before those of input 2
-abbrev pub rules_of_both : List ℕ → Option (List ℕ) → Rules Fault
-rules_of_both first None = rules_of 1 first
-rules_of_both first (Some second) =
+abbrev pub rules_of_both : Options → List ℕ → Option (List ℕ) → Rules Fault
+rules_of_both options first None = rules_of 1 first
+rules_of_both options first (Some second) =
     rules_of 1 first ++ (rules_of 2 second ++ machines_rules (header_of first).e_machine (header_of second).e_machine)
 
 -- the fault of the first rule that one or two inputs break, if any
-abbrev pub first_fault_of_both : List ℕ → Option (List ℕ) → Option Fault
-first_fault_of_both first second = first_fault (rules_of_both first second)
+abbrev pub first_fault_of_both : Options → List ℕ → Option (List ℕ) → Option Fault
+first_fault_of_both options first second = first_fault (rules_of_both options first second)
 
 -- it is what is taken of bytes that break no rule
 abbrev pub IsTakenOf : ℕ → List ℕ → Taken → Type 0

@@ -1,3 +1,4 @@
+pub mod Options
 pub mod Inputs
 pub mod Rules
 pub mod Bare

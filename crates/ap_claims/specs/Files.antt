@@ -1,7 +1,7 @@
 -- The file of some claims, and a block that is filled by them.
 use Rattle.std.specs.Prelude.{◌≡◌, ℕ, ◌-◌, ◌<◌, ◌≤◌, ◌&&◌, nat_le, nat_lt, if◌then◌else◌, Bool, List, [], ◌∷◌, length, slice_index, None, bit_or}
 use Rattle.ap_fields.specs.declared.sizes.TheConstants.{BLOCK}
-use Rattle.ap_fields.specs.Bytes.{Holds}
+use Rattle.ap_fields.specs.Bytes.{Holds, listed}
 use Rattle.ap_claims.specs.Blocks.{BlockState, only, free_block}
 use Rattle.ap_claims.specs.Places.{IsOutside}
 use Rattle.ap_claims.specs.Lists.{Claim, end_of, Among, claims_on, clash_on}
@@ -29,6 +29,15 @@ Agree claims =
 abbrev pub has_place : Claim → ℕ → Bool
 has_place c k = nat_le c.at k && nat_lt k (end_of c)
 
+-- the byte that claims give a place: that of the first claim that has it, and 0 where none has
+abbrev pub byte_at : List Claim → ℕ → ℕ
+byte_at [] k = 0
+byte_at (c ∷ claims) k = if has_place c k then slice_index c.bytes (k - c.at) else byte_at claims k
+
+-- the file of a size that claims make
+unfoldable pub file_of : ℕ → List Claim → List ℕ
+file_of size claims = listed (byte_at claims) 0 size
+
 -- the owners of a place that had some: those of the claims that have it, beside them
 abbrev pub owners_with : ℕ → List Claim → ℕ → ℕ
 owners_with owners [] k = owners
@@ -54,6 +63,10 @@ ClaimsAgree = (size : ℕ) (claims : List Claim) (file : List ℕ) → IsFile si
 -- Claims have one file of a size.
 abbrev pub FilesAreOne : Type 0
 FilesAreOne = (size : ℕ) (claims : List Claim) (file other : List ℕ) → IsFile size claims file → IsFile size claims other → file ≡ other
+
+-- A file that has each claim's bytes is the one that the claims make.
+abbrev pub FilesAreMade : Type 0
+FilesAreMade = (size : ℕ) (claims : List Claim) (file : List ℕ) → IsFile size claims file → file ≡ file_of size claims
 
 -- Claims that have a file of the block's size don't clash, whichever is made first.
 abbrev pub FilesDontClash : Type 0

@@ -1,7 +1,7 @@
 // What claims come to.
 ghost use Rattle.ap_claims.specs.Places.{ClaimsAreExact};
 ghost use Rattle.ap_claims.specs.Lists.{AreWriters};
-ghost use Rattle.ap_claims.specs.Files.{ClaimsAgree, ClaimsFill, FilesAreOne, FilesDontClash};
+ghost use Rattle.ap_claims.specs.Files.{ClaimsAgree, ClaimsFill, FilesAreMade, FilesAreOne, FilesDontClash};
 
 /// A claim is `Ok` exactly where each byte of the range is free or the one asked for; then the range holds the bytes and has
 /// the owner, and all else stays. Else the clash is the first byte that is held with another value.
@@ -20,10 +20,11 @@ pub fn claims_fill_a_block()
     ensures { ClaimsFill }
 {}
 
-/// Claims have one file of a size at most. Where they have one, any two of them agree on the places that they share; and where
-/// that has the block's size, none of them clashes on a free block.
+/// Claims have one file of a size at most, the one that they make place by place. Where they have one, any two of them agree on
+/// the places that they share; and where that has the block's size, none of them clashes on a free block.
 pub fn claims_have_one_file()
     ensures one { FilesAreOne }
+    ensures made { FilesAreMade }
     ensures agree { ClaimsAgree }
     ensures free { FilesDontClash }
 {}

@@ -7,6 +7,7 @@ use Rattle.ap_fields.specs.declared.sizes.TheConstants.{BLOCK}
 use Rattle.ap_elf.specs.declared.types.Entry.{Entry}
 use Rattle.ap_check.specs.declared.load.Load.{Load}
 use Rattle.ap_elf.specs.Machines.{granule_of}
+use Rattle.ap_check.specs.declared.options.Options.{Options}
 use Rattle.ap_check.specs.Inputs.{Taken, Meets}
 use Rattle.ap_layout.specs.declared.layout.Area.{Area}
 use Rattle.ap_layout.specs.Areas.{area_of, after, areas_of, end_from, new_areas, Among, Serves, ServeAll}
@@ -63,9 +64,9 @@ serve-more g news more (p ∷ loads) (a ∷ areas) sub h =
       serve-more g news more loads areas sub h.1,
     )
 
-fits-one : (e : Taken) → Meets e → Fits (e ∷ []) (positions_of e None)
+fits-one : (options : Options) (e : Taken) → Meets e → Fits options (e ∷ []) (positions_of options e None)
 unfolding positions_of
-fits-one e m =
+fits-one options e m =
     let serve = input-serve e BLOCK [] (omega arith) in
     let most = input-end e BLOCK m in
     let table = table-most e m in
@@ -78,9 +79,9 @@ fits-one e m =
       mach = omega arith;
     }
 
-fits-two : (e f : Taken) → Meets e → Meets f → Fits (e ∷ f ∷ []) (positions_of e (Some f))
+fits-two : (options : Options) (e f : Taken) → Meets e → Meets f → Fits options (e ∷ f ∷ []) (positions_of options e (Some f))
 unfolding positions_of
-fits-two e f m n =
+fits-two options e f m n =
     let first : List Area = input_areas e BLOCK in
     let mid : ℕ = end_from BLOCK first in
     let second : List Area = input_areas f mid in
@@ -102,9 +103,9 @@ fits-two e f m n =
     }
 
 -- the positions of inputs that meet the rules fit
-pub positions-fit : (e : Taken) (o : Option Taken) → Meets e → IfSome o (λ f. Meets f) → Fits (inputs_of e o) (positions_of e o)
-positions-fit e None m n = fits-one e m
-positions-fit e (Some f) m n = fits-two e f m n
+pub positions-fit : (options : Options) (e : Taken) (o : Option Taken) → Meets e → IfSome o (λ f. Meets f) → Fits options (inputs_of e o) (positions_of options e o)
+positions-fit options e None m n = fits-one options e m
+positions-fit options e (Some f) m n = fits-two options e f m n
 
 -- an area that isn't empty and serves one of some loads is new
 served-new : (g : ℕ) (news : List Area) (loads : List Load) (areas : List Area) (a : Area) → ServeAll g news loads areas → Among a areas → 0 < a.len → Among a news
@@ -140,7 +141,7 @@ fitted-new news (e ∷ inputs) (areas ∷ lists) a h at some =
 
 -- areas of positions that fit don't overlap
 pub fitting-apart : FittingIsApart
-fitting-apart inputs l fits a b at bt some more =
+fitting-apart options inputs l fits a b at bt some more =
     new-apart BLOCK (joined l.areas) a b
     (fitted-new (new_areas BLOCK (joined l.areas)) inputs l.areas a fits.areas at some)
     (fitted-new (new_areas BLOCK (joined l.areas)) inputs l.areas b fits.areas bt more)
@@ -157,7 +158,7 @@ areas-ascend i g [] c is = tt
 areas-ascend i g (p ∷ loads) c is = (area-past g p c is, areas-ascend (i + 1) g loads (after c (area_of None g p c)) is)
 
 -- the first input's areas ascend
-pub first-ascend : (e : Taken) (o : Option Taken) → Ascend BLOCK (first_areas (positions_of e o).areas)
+pub first-ascend : (options : Options) (e : Taken) (o : Option Taken) → Ascend BLOCK (first_areas (positions_of options e o).areas)
 unfolding positions_of
-first-ascend e None = areas-ascend 0 (granule_of e.machine) e.loads BLOCK (granule_of-is e.machine)
-first-ascend e (Some f) = areas-ascend 0 (granule_of e.machine) e.loads BLOCK (granule_of-is e.machine)
+first-ascend options e None = areas-ascend 0 (granule_of e.machine) e.loads BLOCK (granule_of-is e.machine)
+first-ascend options e (Some f) = areas-ascend 0 (granule_of e.machine) e.loads BLOCK (granule_of-is e.machine)

@@ -1,6 +1,7 @@
 -- The positions that are made are those of the inputs.
 use Rattle.std.proofs.Common.{◌≡◌, ℕ, ◌+◌, List, [], ◌∷◌, refl, Some, None}
 use Rattle.ap_fields.specs.declared.sizes.TheConstants.{BLOCK}
+use Rattle.ap_check.specs.declared.options.Options.{Options}
 use Rattle.ap_check.specs.Inputs.{Taken}
 use Rattle.ap_layout.specs.declared.layout.Area.{Area}
 use Rattle.ap_layout.specs.Areas.{end_from}
@@ -9,15 +10,15 @@ use Rattle.ap_layout.specs.Positions.{Positions, positions_of, input_areas, tabl
 abbrev pub positions_by : List (List Area) → List ℕ → ℕ → ℕ → Positions
 positions_by areas tables body_end total = record { areas = areas; tables = tables; mach_at = 0; mach_len = 0; body_end = body_end; total = total }
 
-pub made-one : (e : Taken) (first second : List Area) (tables : List ℕ) (length end : ℕ)
+pub made-one : (options : Options) (e : Taken) (first second : List Area) (tables : List ℕ) (length end : ℕ)
     → first ≡ input_areas e BLOCK → second ≡ [] → tables ≡ 96 ∷ [] → length ≡ table_length e → end ≡ end_from BLOCK (input_areas e BLOCK)
-    → positions_by (first ∷ second ∷ []) tables (96 + length) end ≡ positions_of e None
+    → positions_by (first ∷ second ∷ []) tables (96 + length) end ≡ positions_of options e None
 unfolding positions_of
-made-one e first second tables length end a b t l d = rw (a, b, t, l, d) refl
+made-one options e first second tables length end a b t l d = rw (a, b, t, l, d) refl
 
-pub made-two : (e f : Taken) (first second : List Area) (tables : List ℕ) (length more mid end : ℕ)
+pub made-two : (options : Options) (e f : Taken) (first second : List Area) (tables : List ℕ) (length more mid end : ℕ)
     → first ≡ input_areas e BLOCK → mid ≡ end_from BLOCK (input_areas e BLOCK) → second ≡ input_areas f mid → tables ≡ 96 ∷ (96 + length) ∷ [] → length ≡ table_length e → more ≡ table_length f
     → end ≡ end_from mid (input_areas f mid)
-    → positions_by (first ∷ second ∷ []) tables (96 + length + more) end ≡ positions_of e (Some f)
+    → positions_by (first ∷ second ∷ []) tables (96 + length + more) end ≡ positions_of options e (Some f)
 unfolding positions_of
-made-two e f first second tables length more mid end a m b t l k d = rw (a, b, t, l, k, d, m) refl
+made-two options e f first second tables length more mid end a m b t l k d = rw (a, b, t, l, k, d, m) refl

@@ -1,5 +1,6 @@
 -- Areas that don't overlap, and areas that ascend.
 use Rattle.std.specs.Prelude.{ℕ, ◌<◌, ◌≤◌, List, [], ◌∷◌}
+use Rattle.ap_check.specs.declared.options.Options.{Options}
 use Rattle.ap_check.specs.Inputs.{Taken}
 use Rattle.ap_layout.specs.declared.layout.Area.{Area}
 use Rattle.ap_layout.specs.Areas.{after, Among, AreApart}
@@ -21,4 +22,4 @@ first_areas (areas ∷ more) = areas
 
 -- positions that fit have no areas that overlap
 abbrev pub FittingIsApart : Type 0
-FittingIsApart = (inputs : List Taken) (l : Positions) → Fits inputs l → AllApart (joined l.areas)
+FittingIsApart = (options : Options) (inputs : List Taken) (l : Positions) → Fits options inputs l → AllApart (joined l.areas)

@@ -3,6 +3,7 @@ use Rattle.std.specs.Prelude.{◌≡◌, ℕ, ◌+◌, ◌*◌, ◌^◌, ◌<◌
 use Rattle.ap_fields.specs.declared.sizes.TheConstants.{BLOCK}
 use Rattle.ap_elf.specs.declared.types.Entry.{Entry}
 use Rattle.ap_elf.specs.Machines.{granule_of}
+use Rattle.ap_check.specs.declared.options.Options.{Options}
 use Rattle.ap_check.specs.Inputs.{Taken}
 use Rattle.ap_layout.specs.declared.layout.Area.{Area}
 use Rattle.ap_layout.specs.Areas.{areas_of, end_from, new_areas, ServeAll}
@@ -16,9 +17,17 @@ pub record Positions : Type 0 where
   pub body_end : ℕ
   pub total : ℕ
 
--- where the first program header table stands: behind the here-document's opening and ten zeros
-abbrev pub tables_start : ℕ
-tables_start = 96
+-- where the first program header table stands: behind the here-document's opening and ten zeros, and behind what formats of the
+-- chosen systems have in front of it, which is nothing so far
+abbrev pub tables_start : Options → List Taken → ℕ
+tables_start options inputs = 96
+
+-- where the Mach-O header stands in the block's second half, and its length: there is none so far
+abbrev pub mach_start : Options → List Taken → ℕ
+mach_start options inputs = 0
+
+abbrev pub mach_length : Options → List Taken → ℕ
+mach_length options inputs = 0
 
 abbrev pub one_if : Option Entry → ℕ
 one_if None = 0
@@ -39,22 +48,27 @@ no_sharing i = None
 abbrev pub input_areas : Taken → ℕ → List Area
 input_areas e c = areas_of no_sharing 0 (granule_of e.machine) e.loads c
 
+-- the areas of one or two inputs, those of the second behind those of the first; there are none without an input
+abbrev pub areas_in : Taken → Option Taken → List (List Area)
+areas_in e None = input_areas e BLOCK ∷ [] ∷ []
+areas_in e (Some f) = input_areas e BLOCK ∷ input_areas f (end_from BLOCK (input_areas e BLOCK)) ∷ []
+
 -- the positions of one or two inputs
-unfoldable pub positions_of : Taken → Option Taken → Positions
-positions_of e None = record {
-  areas = input_areas e BLOCK ∷ [] ∷ [];
-  tables = tables_start ∷ [];
-  mach_at = 0;
-  mach_len = 0;
-  body_end = tables_start + table_length e;
+unfoldable pub positions_of : Options → Taken → Option Taken → Positions
+positions_of options e None = record {
+  areas = areas_in e None;
+  tables = tables_start options (e ∷ []) ∷ [];
+  mach_at = mach_start options (e ∷ []);
+  mach_len = mach_length options (e ∷ []);
+  body_end = tables_start options (e ∷ []) + table_length e;
   total = end_from BLOCK (input_areas e BLOCK);
 }
-positions_of e (Some f) = record {
-  areas = input_areas e BLOCK ∷ input_areas f (end_from BLOCK (input_areas e BLOCK)) ∷ [];
-  tables = tables_start ∷ (tables_start + table_length e) ∷ [];
-  mach_at = 0;
-  mach_len = 0;
-  body_end = tables_start + table_length e + table_length f;
+positions_of options e (Some f) = record {
+  areas = areas_in e (Some f);
+  tables = tables_start options (e ∷ f ∷ []) ∷ (tables_start options (e ∷ f ∷ []) + table_length e) ∷ [];
+  mach_at = mach_start options (e ∷ f ∷ []);
+  mach_len = mach_length options (e ∷ f ∷ []);
+  body_end = tables_start options (e ∷ f ∷ []) + table_length e + table_length f;
   total = end_from (end_from BLOCK (input_areas e BLOCK)) (input_areas f (end_from BLOCK (input_areas e BLOCK)));
 }
 
@@ -78,11 +92,11 @@ AreTables at (e ∷ inputs) (t ∷ tables) end = (t ≡ at) × AreTables (at + t
 
 -- What writers and readings may suppose of positions: every load is served by an area that is empty or one of the new ones,
 -- of which no two overlap; the tables follow each other, and end below the window.
-pub record Fits (inputs : List Taken) (l : Positions) : Type 0 where
+pub record Fits (options : Options) (inputs : List Taken) (l : Positions) : Type 0 where
   pub areas : FitAll (new_areas BLOCK (joined l.areas)) inputs l.areas
   pub total : l.total ≡ end_from BLOCK (joined l.areas)
   pub small : l.total < 2 ^ 31
-  pub tables : AreTables tables_start inputs l.tables l.body_end
+  pub tables : AreTables (tables_start options inputs) inputs l.tables l.body_end
   pub body : l.body_end ≤ 3568
   pub mach : l.mach_at + l.mach_len ≤ BLOCK
 

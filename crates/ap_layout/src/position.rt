@@ -18,14 +18,14 @@ const TABLES: u32 = 96;
 /// its input's machine, in the order of the inputs and of their loads behind the block; and the program header tables,
 /// one behind the other.
 pub fn place(job: &Job<'_>) -> Layout
-    ensures positions { result ≡ positions_of job.now.first.now (option_copied job.now.second) }
-    ensures fits { Fits (inputs_of job.now.first.now (option_copied job.now.second)) result }
+    ensures positions { result ≡ positions_of job.now.options job.now.first.now (option_copied job.now.second) }
+    ensures fits { Fits job.now.options (inputs_of job.now.first.now (option_copied job.now.second)) result }
     ensures apart { AllApart (joined result.areas) }
     ensures ascend { Ascend BLOCK (first_areas result.areas) }
 {
     match job.second {
-        None => place_one(job.first),
-        Some(second) => place_two(job.first, second),
+        None => place_one(job),
+        Some(second) => place_two(job, second),
     }
 }
 
@@ -34,11 +34,11 @@ pub fn areas_are_apart()
     ensures { FittingIsApart }
 {}
 
-fn place_one(e: &Input) -> Layout
-    ensures positions { result ≡ positions_of e.now None }
-    ensures fits { Fits (inputs_of e.now None) result }
+fn place_one(job: &Job<'_>) -> Layout
+    ensures positions { result ≡ positions_of job.now.options job.now.first.now None }
+    ensures fits { Fits job.now.options (inputs_of job.now.first.now None) result }
 {
-    let placed = areas_from(e, BLOCK as u64);
+    let placed = areas_from(job.first, BLOCK as u64);
     let mut tables = ArrayVec::new();
     tables.push(TABLES);
     Layout {
@@ -46,27 +46,27 @@ fn place_one(e: &Input) -> Layout
         tables,
         mach_at: 0,
         mach_len: 0,
-        body_end: TABLES + table_length(e),
+        body_end: TABLES + table_length(job.first),
         total: placed.end,
     }
 }
 
-fn place_two(e: &Input, f: &Input) -> Layout
-    ensures positions { result ≡ positions_of e.now (Some f.now) }
-    ensures fits { Fits (inputs_of e.now (Some f.now)) result }
+fn place_two(job: &Job<'_>, second: &Input) -> Layout
+    ensures positions { result ≡ positions_of job.now.options job.now.first.now (Some second.now) }
+    ensures fits { Fits job.now.options (inputs_of job.now.first.now (Some second.now)) result }
 {
-    let first = areas_from(e, BLOCK as u64);
-    let second = areas_from(f, first.end);
-    let behind = TABLES + table_length(e);
+    let placed = areas_from(job.first, BLOCK as u64);
+    let behind = areas_from(second, placed.end);
+    let table = TABLES + table_length(job.first);
     let mut tables = ArrayVec::new();
     tables.push(TABLES);
-    tables.push(behind);
+    tables.push(table);
     Layout {
-        areas: [first.areas, second.areas],
+        areas: [placed.areas, behind.areas],
         tables,
         mach_at: 0,
         mach_len: 0,
-        body_end: behind + table_length(f),
-        total: second.end,
+        body_end: table + table_length(second),
+        total: behind.end,
     }
 }

@@ -14,7 +14,7 @@ use Rattle.ap_claims.specs.Files.{IsFile, IsFilled, owners_at}
 use Rattle.ap_claims.proofs.OneFile.{files-one}
 use Rattle.ap_claims.proofs.Growing.{IsFrom, no-text, front-claim, front-zeros, joined-file, among-either, owners-before}
 use Rattle.ap_check.specs.declared.load.Load.{Load}
-use Rattle.ap_check.specs.declared.options.Systems.{Systems}
+use Rattle.ap_check.specs.declared.options.Options.{Options}
 use Rattle.ap_elf.specs.Machines.{granule_of}
 use Rattle.ap_check.specs.Inputs.{Taken}
 use Rattle.ap_layout.specs.declared.layout.Area.{Area}
@@ -101,15 +101,15 @@ tail-past e a (Some (f, b)) c among = elim (among-either c (input_claims BLOCK e
 ]
 
 -- a block that is filled is the file's first part
-pub block-bytes : (systems : Systems) (inputs : List Taken) (l : Positions) (b : BlockState) → Fits inputs l → IsFilled (block_claims systems inputs l) b → b.bytes ≡ block_of systems inputs l
-block-bytes systems inputs l b fits h = files-one BLOCK (block_claims systems inputs l) b.bytes (block_of systems inputs l) h.bytes (block-claimed systems inputs l fits)
+pub block-bytes : (options : Options) (inputs : List Taken) (l : Positions) (b : BlockState) → Fits options inputs l → IsFilled (block_claims options inputs l) b → b.bytes ≡ block_of options inputs l
+block-bytes options inputs l b fits h = files-one BLOCK (block_claims options inputs l) b.bytes (block_of options inputs l) h.bytes (block-claimed options inputs l fits)
 
-pub bytes-lent : (systems : Systems) (inputs : List Taken) (l : Positions) (tail : List ℕ) (b : BlockState) (k : ℕ) → Fits inputs l → IsFilled (block_claims systems inputs l) b → k < BLOCK
-    → get_or b.bytes k 0 ≡ get_or (block_of systems inputs l ++ tail) k 0
-bytes-lent systems inputs l tail b k fits h low =
-    let long = length-block systems inputs l fits in
-    ap (λ x. get_or x k 0) (block-bytes systems inputs l b fits h)
-    ∙ sym (get_or_append_left (block_of systems inputs l) tail 0 k (omega arith))
+pub bytes-lent : (options : Options) (inputs : List Taken) (l : Positions) (tail : List ℕ) (b : BlockState) (k : ℕ) → Fits options inputs l → IsFilled (block_claims options inputs l) b → k < BLOCK
+    → get_or b.bytes k 0 ≡ get_or (block_of options inputs l ++ tail) k 0
+bytes-lent options inputs l tail b k fits h low =
+    let long = length-block options inputs l fits in
+    ap (λ x. get_or x k 0) (block-bytes options inputs l b fits h)
+    ∙ sym (get_or_append_left (block_of options inputs l) tail 0 k (omega arith))
 
 pub owners-lent : (claims : List Claim) (e : Taken) (a : List ℕ) (o : Option (Taken × List ℕ)) (b : BlockState) (k : ℕ) → IsFilled claims b → k < BLOCK
     → get_or b.owners k 0 ≡ owners_at (claims ++ tail_claims e a o) k

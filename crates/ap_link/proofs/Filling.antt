@@ -7,7 +7,7 @@ use Rattle.ap_claims.specs.Files.{IsFilled}
 use Rattle.ap_claims.proofs.Filled.{claims-fill}
 use Rattle.ap_claims.proofs.Growing.{inside-file}
 use Rattle.ap_claims.proofs.Unclashed.{files-pass}
-use Rattle.ap_check.specs.declared.options.Systems.{Systems}
+use Rattle.ap_check.specs.declared.options.Options.{Options}
 use Rattle.ap_check.specs.Inputs.{Taken}
 use Rattle.ap_layout.specs.Positions.{Positions, Fits}
 use Rattle.ap_script.specs.Blocks.{block_of}
@@ -15,24 +15,24 @@ use Rattle.ap_script.specs.Claims.{block_claims}
 use Rattle.ap_script.proofs.Claimed.{block-claimed}
 
 -- no claim clashes
-never-clashes : (systems : Systems) (inputs : List Taken) (l : Positions) → Fits inputs l → clash_on free_block (block_claims systems inputs l) ≡ None
-never-clashes systems inputs l fits = files-pass (block_claims systems inputs l) (block_of systems inputs l) (block-claimed systems inputs l fits)
+never-clashes : (options : Options) (inputs : List Taken) (l : Positions) → Fits options inputs l → clash_on free_block (block_claims options inputs l) ≡ None
+never-clashes options inputs l fits = files-pass (block_claims options inputs l) (block_of options inputs l) (block-claimed options inputs l fits)
 
-pub no-clash : (systems : Systems) (inputs : List Taken) (l : Positions) (old new : BlockState) (made : Result (Unit {0}) Clash) (clash : Clash) → Fits inputs l → old ≡ free_block
-    → Makes old new (block_claims systems inputs l) made → made ≡ Err clash → ⊥
-no-clash systems inputs l old new made clash fits free h is =
-    let stops : Makes old new (block_claims systems inputs l) (Err clash) = subst (Makes old new (block_claims systems inputs l)) is h in
-    let none : clash_on old (block_claims systems inputs l) ≡ None = ap (λ b. clash_on b (block_claims systems inputs l)) free ∙ never-clashes systems inputs l fits in
+pub no-clash : (options : Options) (inputs : List Taken) (l : Positions) (old new : BlockState) (made : Result (Unit {0}) Clash) (clash : Clash) → Fits options inputs l → old ≡ free_block
+    → Makes old new (block_claims options inputs l) made → made ≡ Err clash → ⊥
+no-clash options inputs l old new made clash fits free h is =
+    let stops : Makes old new (block_claims options inputs l) (Err clash) = subst (Makes old new (block_claims options inputs l)) is h in
+    let none : clash_on old (block_claims options inputs l) ≡ None = ap (λ b. clash_on b (block_claims options inputs l)) free ∙ never-clashes options inputs l fits in
     let bad : None ≡ Some clash = sym none ∙ stops.0 in
     cc
 
-pub block-filled : (systems : Systems) (inputs : List Taken) (l : Positions) (old new : BlockState) (made : Result (Unit {0}) Clash) (done : Unit {0}) → Fits inputs l → old ≡ free_block
-    → Makes old new (block_claims systems inputs l) made → made ≡ Ok done → IsFilled (block_claims systems inputs l) new
-block-filled systems inputs l old new made done fits free h is =
-    let goes : Makes old new (block_claims systems inputs l) (Ok done) = subst (Makes old new (block_claims systems inputs l)) is h in
-    let all : new ≡ claims_on free_block (block_claims systems inputs l) = goes.1 ∙ ap (λ b. claims_on b (block_claims systems inputs l)) free in
-    subst (IsFilled (block_claims systems inputs l)) (sym all)
-    (claims-fill (block_claims systems inputs l) (inside-file (block_claims systems inputs l) (block_of systems inputs l) (block-claimed systems inputs l fits)) (never-clashes systems inputs l fits))
+pub block-filled : (options : Options) (inputs : List Taken) (l : Positions) (old new : BlockState) (made : Result (Unit {0}) Clash) (done : Unit {0}) → Fits options inputs l → old ≡ free_block
+    → Makes old new (block_claims options inputs l) made → made ≡ Ok done → IsFilled (block_claims options inputs l) new
+block-filled options inputs l old new made done fits free h is =
+    let goes : Makes old new (block_claims options inputs l) (Ok done) = subst (Makes old new (block_claims options inputs l)) is h in
+    let all : new ≡ claims_on free_block (block_claims options inputs l) = goes.1 ∙ ap (λ b. claims_on b (block_claims options inputs l)) free in
+    subst (IsFilled (block_claims options inputs l)) (sym all)
+    (claims-fill (block_claims options inputs l) (inside-file (block_claims options inputs l) (block_of options inputs l) (block-claimed options inputs l fits)) (never-clashes options inputs l fits))
 
-pub filled-at : (systems : Systems) (inputs : List Taken) (l m : Positions) (b : BlockState) → l ≡ m → IsFilled (block_claims systems inputs l) b → IsFilled (block_claims systems inputs m) b
-filled-at systems inputs l m b is h = subst (λ p. IsFilled (block_claims systems inputs p) b) is h
+pub filled-at : (options : Options) (inputs : List Taken) (l m : Positions) (b : BlockState) → l ≡ m → IsFilled (block_claims options inputs l) b → IsFilled (block_claims options inputs m) b
+filled-at options inputs l m b is h = subst (λ p. IsFilled (block_claims options inputs p) b) is h

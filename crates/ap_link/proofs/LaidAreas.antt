@@ -1,6 +1,7 @@
 -- The areas of a layout, as the areas of its inputs.
 use Rattle.std.proofs.Common.{◌≡◌, ℕ, suc, ◌+◌, ◌^◌, ◌<◌, List, [], ◌∷◌, length, get_or, refl, sym, ap, ◌∙◌, subst, arith, Option, Some, None}
 use Rattle.ap_fields.specs.declared.sizes.TheConstants.{BLOCK}
+use Rattle.ap_check.specs.declared.options.Options.{Options}
 use Rattle.ap_check.specs.declared.load.Load.{Load}
 use Rattle.ap_elf.specs.Machines.{granule_of}
 use Rattle.ap_check.specs.Inputs.{Taken, Meets}
@@ -14,30 +15,30 @@ use Rattle.ap_link.specs.Linked.{input_end}
 use Rattle.ap_link.specs.Nexts.{AreNext}
 use Rattle.ap_link.proofs.PlacedTexts.{areas-next}
 
-areas-first : (e : Taken) (o : Option Taken) → get_or (positions_of e o).areas 0 [] ≡ input_areas e BLOCK
+areas-first : (options : Options) (e : Taken) (o : Option Taken) → get_or (positions_of options e o).areas 0 [] ≡ input_areas e BLOCK
 unfolding positions_of
-areas-first e None = refl
-areas-first e (Some f) = refl
+areas-first options e None = refl
+areas-first options e (Some f) = refl
 
-pub first-areas : (e : Taken) (o : Option Taken) (l : Positions) → l ≡ positions_of e o → get_or l.areas 0 [] ≡ input_areas e BLOCK
-first-areas e o l is = ap (λ (x : Positions). get_or x.areas 0 []) is ∙ areas-first e o
+pub first-areas : (options : Options) (e : Taken) (o : Option Taken) (l : Positions) → l ≡ positions_of options e o → get_or l.areas 0 [] ≡ input_areas e BLOCK
+first-areas options e o l is = ap (λ (x : Positions). get_or x.areas 0 []) is ∙ areas-first options e o
 
-areas-second : (e f : Taken) → get_or (positions_of e (Some f)).areas 1 [] ≡ input_areas f (input_end e)
+areas-second : (options : Options) (e f : Taken) → get_or (positions_of options e (Some f)).areas 1 [] ≡ input_areas f (input_end e)
 unfolding positions_of
-areas-second e f = refl
+areas-second options e f = refl
 
-pub second-areas : (e f : Taken) (l : Positions) → l ≡ positions_of e (Some f) → get_or l.areas 1 [] ≡ input_areas f (input_end e)
-second-areas e f l is = ap (λ (x : Positions). get_or x.areas 1 []) is ∙ areas-second e f
+pub second-areas : (options : Options) (e f : Taken) (l : Positions) → l ≡ positions_of options e (Some f) → get_or l.areas 1 [] ≡ input_areas f (input_end e)
+second-areas options e f l is = ap (λ (x : Positions). get_or x.areas 1 []) is ∙ areas-second options e f
 
-total-two : (e f : Taken) → (positions_of e (Some f)).total ≡ end_from (input_end e) (input_areas f (input_end e))
+total-two : (options : Options) (e f : Taken) → (positions_of options e (Some f)).total ≡ end_from (input_end e) (input_areas f (input_end e))
 unfolding positions_of
-total-two e f = refl
+total-two options e f = refl
 
 -- the first input's areas end in the file
-pub end-small : (e f : Taken) (l : Positions) → l ≡ positions_of e (Some f) → l.total < 2 ^ 31 → input_end e < 2 ^ 31
-end-small e f l is small =
+pub end-small : (options : Options) (e f : Taken) (l : Positions) → l ≡ positions_of options e (Some f) → l.total < 2 ^ 31 → input_end e < 2 ^ 31
+end-small options e f l is small =
     let least = end-least (input_end e) (input_areas f (input_end e)) in
-    let total : l.total ≡ end_from (input_end e) (input_areas f (input_end e)) = ap (λ (x : Positions). x.total) is ∙ total-two e f in
+    let total : l.total ≡ end_from (input_end e) (input_areas f (input_end e)) = ap (λ (x : Positions). x.total) is ∙ total-two options e f in
     omega arith
 
 -- as many areas as loads
@@ -65,5 +66,5 @@ placed-next e g size c loads areas m small g-is size-is loads-is areas-is =
     (subst (λ x. AreNext (granule_of e.machine) e.size c e.loads x) (sym areas-is) (next-areas e c m small))))
 
 -- where the first input's areas end
-pub ends-first : (e : Taken) (areas : List Area) (l : Positions) (o : Option Taken) → l ≡ positions_of e o → areas ≡ get_or l.areas 0 [] → end_from BLOCK areas ≡ input_end e
-ends-first e areas l o is got = ap (end_from BLOCK) (got ∙ first-areas e o l is)
+pub ends-first : (options : Options) (e : Taken) (areas : List Area) (l : Positions) (o : Option Taken) → l ≡ positions_of options e o → areas ≡ get_or l.areas 0 [] → end_from BLOCK areas ≡ input_end e
+ends-first options e areas l o is got = ap (end_from BLOCK) (got ∙ first-areas options e o l is)

@@ -25,3 +25,5 @@ pub mod Handing
 pub mod ClaimedFiles
 pub mod Filling
 pub mod Lending
+
+

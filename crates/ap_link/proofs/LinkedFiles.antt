@@ -2,7 +2,7 @@
 use Rattle.std.proofs.Common.{◌≡◌, ◌≢◌, ℕ, zero, suc, ◌+◌, ◌^◌, ◌<◌, ◌≤◌, true, cond, not, ◌==◌, List, [], ◌∷◌, ◌++◌, length, All, IfSome, refl, sym, ap, ◌∙◌, subst, arith, append_assoc, append-nil, length-append, Option, Some, None, Result, Ok, Err}
 use Rattle.std.proofs.lemmas.Bool.Decides.{nat_tests}
 use Rattle.ap_fields.specs.Bytes.{Holds, over}
-use Rattle.ap_fields.specs.Readings.{MemoryImage, bytes_in}
+use Rattle.ap_fields.specs.Readings.{Cell, MemoryImage, bytes_in}
 use Rattle.ap_fields.specs.declared.sizes.TheConstants.{BLOCK}
 use Rattle.ap_claims.specs.Files.{IsFile}
 use Rattle.ap_claims.proofs.OneFile.{claims-agree}
@@ -12,7 +12,7 @@ use Rattle.ap_elf.specs.Fields.{header_of, entries_of, loads_in}
 use Rattle.ap_fields.specs.FirstFault.{Rules, first_fault}
 use Rattle.ap_fields.proofs.FirstFaults.{append-none}
 use Rattle.ap_check.specs.declared.fault.Fault.{Fault}
-use Rattle.ap_check.specs.declared.options.Systems.{Systems}
+use Rattle.ap_check.specs.declared.options.Options.{Options}
 use Rattle.ap_check.specs.Rules.{fault_of, rules_of}
 use Rattle.ap_check.specs.Both.{machines_rules, pair_rules, first_fault_of_both}
 use Rattle.ap_check.proofs.Laws.{input_meets}
@@ -38,7 +38,7 @@ use Rattle.ap_script.proofs.BlockParts.{length-block, block-magic, block-tables}
 use Rattle.ap_script.proofs.Openings.{parts-holds}
 use Rattle.ap_script.proofs.StatementPlaces.{opens-only, parts-block}
 use Rattle.ap_script.proofs.TakenStatements.{count-places, taken-block, header_for-input, has-first, has-second}
-use Rattle.ap_link.specs.Same.{Same}
+use Rattle.ap_link.specs.Same.{Same, nothing_else}
 use Rattle.ap_link.specs.LinkedIn.{HoldAll, IsLinkedIn}
 use Rattle.ap_link.specs.Linked.{input_text, input_end, tail_of, block_for, second_of, taken_second, linked_of}
 use Rattle.ap_link.specs.LinkedClaims.{linked_claims, tail_claims}
@@ -83,11 +83,11 @@ abbrev pub total-of : Taken → Option (Taken × List ℕ) → ℕ
 total-of e None = input_end e
 total-of e (Some (f, b)) = end_from (input_end e) (input_areas f (input_end e))
 
-pub linked-length : (systems : Systems) (e : Taken) (a : List ℕ) (o : Option (Taken × List ℕ)) (l : Positions) (w : List ℕ) → length w ≡ BLOCK → (l.total ≡ total-of e o) → length (w ++ tail_of e a o) ≡ l.total
-linked-length systems e a None l w long total =
+pub linked-length : (options : Options) (e : Taken) (a : List ℕ) (o : Option (Taken × List ℕ)) (l : Positions) (w : List ℕ) → length w ≡ BLOCK → (l.total ≡ total-of e o) → length (w ++ tail_of e a o) ≡ l.total
+linked-length options e a None l w long total =
     let one = text-end e a BLOCK in
     length-append w (input_text BLOCK e a) ∙ omega arith
-linked-length systems e a (Some (f, b)) l w long total =
+linked-length options e a (Some (f, b)) l w long total =
     let one = text-end e a BLOCK in
     let two = text-end f b (input_end e) in
     length-append w (input_text BLOCK e a ++ input_text (input_end e) f b)
@@ -99,228 +99,228 @@ abbrev pub bare-of : Option (Taken × List ℕ) → Option Taken
 bare-of None = None
 bare-of (Some i) = Some i.0
 
-total-is : (e : Taken) (o : Option (Taken × List ℕ)) → (positions_of e (bare-of o)).total ≡ total-of e o
+total-is : (options : Options) (e : Taken) (o : Option (Taken × List ℕ)) → (positions_of options e (bare-of o)).total ≡ total-of e o
 unfolding positions_of
-total-is e None = refl
-total-is e (Some (f, b)) = refl
+total-is options e None = refl
+total-is options e (Some (f, b)) = refl
 
 -- the file: the block, and what stands behind it
-abbrev pub file-of : Systems → Taken → List ℕ → Option (Taken × List ℕ) → List ℕ
-file-of systems e a o = block_for systems e (bare-of o) ++ tail_of e a o
+abbrev pub file-of : Options → Taken → List ℕ → Option (Taken × List ℕ) → List ℕ
+file-of options e a o = block_for options e (bare-of o) ++ tail_of e a o
 
-pub file-length : (systems : Systems) (e : Taken) (a : List ℕ) (o : Option (Taken × List ℕ)) → AreLinkable e (bare-of o) → length (file-of systems e a o) ≡ (positions_of e (bare-of o)).total
-file-length systems e a o h =
-    let fits = positions-fit e (bare-of o) h.first h.second in
-    linked-length systems e a o (positions_of e (bare-of o)) (block_for systems e (bare-of o)) (length-block systems (inputs_of e (bare-of o)) (positions_of e (bare-of o)) fits) (total-is e o)
+pub file-length : (options : Options) (e : Taken) (a : List ℕ) (o : Option (Taken × List ℕ)) → AreLinkable e (bare-of o) → length (file-of options e a o) ≡ (positions_of options e (bare-of o)).total
+file-length options e a o h =
+    let fits = positions-fit options e (bare-of o) h.first h.second in
+    linked-length options e a o (positions_of options e (bare-of o)) (block_for options e (bare-of o)) (length-block options (inputs_of e (bare-of o)) (positions_of options e (bare-of o)) fits) (total-is options e o)
 
-total-small : (e : Taken) (o : Option Taken) → AreLinkable e o → (positions_of e o).total < 2 ^ 31
-total-small e o h = (positions-fit e o h.first h.second).small
+total-small : (options : Options) (e : Taken) (o : Option Taken) → AreLinkable e o → (positions_of options e o).total < 2 ^ 31
+total-small options e o h = (positions-fit options e o h.first h.second).small
 
-total-past : (systems : Systems) (e : Taken) (a : List ℕ) (o : Option (Taken × List ℕ)) → AreLinkable e (bare-of o) → BLOCK ≤ length (file-of systems e a o)
-total-past systems e a o h =
-    let fits = positions-fit e (bare-of o) h.first h.second in
-    let l1 = length-block systems (inputs_of e (bare-of o)) (positions_of e (bare-of o)) fits in
-    let l2 = length-append (block_for systems e (bare-of o)) (tail_of e a o) in
+total-past : (options : Options) (e : Taken) (a : List ℕ) (o : Option (Taken × List ℕ)) → AreLinkable e (bare-of o) → BLOCK ≤ length (file-of options e a o)
+total-past options e a o h =
+    let fits = positions-fit options e (bare-of o) h.first h.second in
+    let l1 = length-block options (inputs_of e (bare-of o)) (positions_of options e (bare-of o)) fits in
+    let l2 = length-append (block_for options e (bare-of o)) (tail_of e a o) in
     omega arith
 
 -- ---- the first input
 
-first-held : (systems : Systems) (e : Taken) (a : List ℕ) (o : Option (Taken × List ℕ)) → AreLinkable e (bare-of o)
-    → HoldAll (granule_of e.machine) (bytes_in a) (file-of systems e a o) e.loads (input_areas e BLOCK)
-first-held systems e a None h =
-    let fits = positions-fit e None h.first h.second in
-    let w : List ℕ = block_for systems e None in
+first-held : (options : Options) (e : Taken) (a : List ℕ) (o : Option (Taken × List ℕ)) → AreLinkable e (bare-of o)
+    → HoldAll (granule_of e.machine) (bytes_in a) (file-of options e a o) e.loads (input_areas e BLOCK)
+first-held options e a None h =
+    let fits = positions-fit options e None h.first h.second in
+    let w : List ℕ = block_for options e None in
     let t : List ℕ = input_text BLOCK e a in
     subst (λ x. HoldAll (granule_of e.machine) (bytes_in a) (w ++ x) e.loads (input_areas e BLOCK)) (append-nil t)
-    (text-held 0 (granule_of e.machine) (bytes_in a) e.loads BLOCK w [] (granule_of-is e.machine) (omega arith) (length-block systems (inputs_of e None) (positions_of e None) fits))
-first-held systems e a (Some (f, b)) h =
-    let fits = positions-fit e (Some f) h.first h.second in
-    text-held 0 (granule_of e.machine) (bytes_in a) e.loads BLOCK (block_for systems e (Some f)) (input_text (input_end e) f b) (granule_of-is e.machine) (omega arith)
-    (length-block systems (inputs_of e (Some f)) (positions_of e (Some f)) fits)
+    (text-held 0 (granule_of e.machine) (bytes_in a) e.loads BLOCK w [] (granule_of-is e.machine) (omega arith) (length-block options (inputs_of e None) (positions_of options e None) fits))
+first-held options e a (Some (f, b)) h =
+    let fits = positions-fit options e (Some f) h.first h.second in
+    text-held 0 (granule_of e.machine) (bytes_in a) e.loads BLOCK (block_for options e (Some f)) (input_text (input_end e) f b) (granule_of-is e.machine) (omega arith)
+    (length-block options (inputs_of e (Some f)) (positions_of options e (Some f)) fits)
 
-first-table : (systems : Systems) (e : Taken) (o : Option Taken) (rest : List ℕ) → Fits (inputs_of e o) (positions_of e o) → Holds (block_for systems e o ++ rest) tables_start (table_text e (input_areas e BLOCK))
+first-table : (options : Options) (e : Taken) (o : Option Taken) (rest : List ℕ) → Fits options (inputs_of e o) (positions_of options e o) → Holds (block_for options e o ++ rest) (tables_start options (inputs_of e o)) (table_text e (input_areas e BLOCK))
 unfolding positions_of
-first-table systems e None rest fits = (block-tables systems (inputs_of e None) (positions_of e None) rest fits).0
-first-table systems e (Some f) rest fits = (block-tables systems (inputs_of e (Some f)) (positions_of e (Some f)) rest fits).0
+first-table options e None rest fits = (block-tables options (inputs_of e None) (positions_of options e None) rest fits).0
+first-table options e (Some f) rest fits = (block-tables options (inputs_of e (Some f)) (positions_of options e (Some f)) rest fits).0
 
-first-linked : (systems : Systems) (n : ℕ) (a : List ℕ) (o : Option (Taken × List ℕ)) → AreLinkable (input_of n a) (bare-of o)
-    → IsLinkedIn (input_of n a) (entries_of a) (bytes_in a) (input_areas (input_of n a) BLOCK) tables_start (file-of systems (input_of n a) a o)
-first-linked systems n a o h =
+first-linked : (options : Options) (n : ℕ) (a : List ℕ) (o : Option (Taken × List ℕ)) → AreLinkable (input_of n a) (bare-of o)
+    → IsLinkedIn (input_of n a) (entries_of a) (bytes_in a) (input_areas (input_of n a) BLOCK) (tables_start options (inputs_of (input_of n a) (bare-of o))) (file-of options (input_of n a) a o)
+first-linked options n a o h =
     let e : Taken = input_of n a in
-    let fits = positions-fit e (bare-of o) h.first h.second in
+    let fits = positions-fit options e (bare-of o) h.first h.second in
     let most = table-most e h.first in
-    let size = file-length systems e a o h in
-    let small = total-small e (bare-of o) h in
+    let size = file-length options e a o h in
+    let small = total-small options e (bare-of o) h in
     record {
       meets = h.first;
       loads = loads-taken n a;
-      held = first-held systems e a o h;
+      held = first-held options e a o h;
       past = omega arith;
       inside = omega arith;
-      table = first-table systems e (bare-of o) (tail_of e a o) fits;
-      block = total-past systems e a o h;
+      table = first-table options e (bare-of o) (tail_of e a o) fits;
+      block = total-past options e a o h;
       small = omega arith;
     }
 
 -- ---- the second
 
-second-held : (systems : Systems) (e f : Taken) (a b : List ℕ) → AreLinkable e (Some f)
-    → HoldAll (granule_of f.machine) (bytes_in b) (file-of systems e a (Some (f, b))) f.loads (input_areas f (input_end e))
-second-held systems e f a b h =
-    let fits = positions-fit e (Some f) h.first h.second in
-    let w : List ℕ = block_for systems e (Some f) in
+second-held : (options : Options) (e f : Taken) (a b : List ℕ) → AreLinkable e (Some f)
+    → HoldAll (granule_of f.machine) (bytes_in b) (file-of options e a (Some (f, b))) f.loads (input_areas f (input_end e))
+second-held options e f a b h =
+    let fits = positions-fit options e (Some f) h.first h.second in
+    let w : List ℕ = block_for options e (Some f) in
     let t : List ℕ = input_text BLOCK e a in
     let u : List ℕ = input_text (input_end e) f b in
     let one = text-end e a BLOCK in
-    let l1 = length-block systems (inputs_of e (Some f)) (positions_of e (Some f)) fits in
+    let l1 = length-block options (inputs_of e (Some f)) (positions_of options e (Some f)) fits in
     let l2 = length-append w t in
     let low = end-least BLOCK (input_areas e BLOCK) in
     let held : HoldAll (granule_of f.machine) (bytes_in b) ((w ++ t) ++ (u ++ [])) f.loads (input_areas f (input_end e)) =
     text-held 0 (granule_of f.machine) (bytes_in b) f.loads (input_end e) (w ++ t) [] (granule_of-is f.machine) low (omega arith) in
     subst (λ x. HoldAll (granule_of f.machine) (bytes_in b) x f.loads (input_areas f (input_end e))) (ap (λ x. (w ++ t) ++ x) (append-nil u) ∙ append_assoc w t u) held
 
-second-table : (systems : Systems) (e f : Taken) (rest : List ℕ) → Fits (inputs_of e (Some f)) (positions_of e (Some f))
-    → Holds (block_for systems e (Some f) ++ rest) (tables_start + table_length e) (table_text f (input_areas f (input_end e)))
+second-table : (options : Options) (e f : Taken) (rest : List ℕ) → Fits options (inputs_of e (Some f)) (positions_of options e (Some f))
+    → Holds (block_for options e (Some f) ++ rest) (tables_start options (inputs_of e (Some f)) + table_length e) (table_text f (input_areas f (input_end e)))
 unfolding positions_of
-second-table systems e f rest fits = (block-tables systems (inputs_of e (Some f)) (positions_of e (Some f)) rest fits).1.0
+second-table options e f rest fits = (block-tables options (inputs_of e (Some f)) (positions_of options e (Some f)) rest fits).1.0
 
-second-linked : (systems : Systems) (n : ℕ) (e : Taken) (a b : List ℕ) → AreLinkable e (Some (input_of n b))
-    → IsLinkedIn (input_of n b) (entries_of b) (bytes_in b) (input_areas (input_of n b) (input_end e)) (tables_start + table_length e) (file-of systems e a (Some (input_of n b, b)))
-second-linked systems n e a b h =
+second-linked : (options : Options) (n : ℕ) (e : Taken) (a b : List ℕ) → AreLinkable e (Some (input_of n b))
+    → IsLinkedIn (input_of n b) (entries_of b) (bytes_in b) (input_areas (input_of n b) (input_end e)) (tables_start options (inputs_of e (Some (input_of n b))) + table_length e) (file-of options e a (Some (input_of n b, b)))
+second-linked options n e a b h =
     let f : Taken = input_of n b in
-    let fits = positions-fit e (Some f) h.first h.second in
+    let fits = positions-fit options e (Some f) h.first h.second in
     let one = table-most e h.first in
     let two = table-most f h.second in
-    let size = file-length systems e a (Some (f, b)) h in
-    let small = total-small e (Some f) h in
+    let size = file-length options e a (Some (f, b)) h in
+    let small = total-small options e (Some f) h in
     record {
       meets = h.second;
       loads = loads-taken n b;
-      held = second-held systems e f a b h;
+      held = second-held options e f a b h;
       past = omega arith;
       inside = omega arith;
-      table = second-table systems e f (tail_of e a (Some (f, b))) fits;
-      block = total-past systems e a (Some (f, b)) h;
+      table = second-table options e f (tail_of e a (Some (f, b))) fits;
+      block = total-past options e a (Some (f, b)) h;
       small = omega arith;
     }
 
 -- ---- what a file carries of an input
 
-same-as_ape : (g : ℕ) (byte : ℕ → ℕ) (loads : List Entry) (start : ℕ) (reading : Result MemoryImage ElfFault) → Same g byte loads start reading → Same g byte loads start (as_ape reading)
-same-as_ape g byte loads start (Ok image) h = h
-same-as_ape g byte loads start (Err fault) h = absurd h
+same-as_ape : (g : ℕ) (byte : ℕ → ℕ) (loads : List Entry) (start : ℕ) (Else : ℕ → Option Cell → Type 0) (reading : Result MemoryImage ElfFault) → Same g byte loads start Else reading → Same g byte loads start Else (as_ape reading)
+same-as_ape g byte loads start Else (Ok image) h = h
+same-as_ape g byte loads start Else (Err fault) h = absurd h
 
 ape-by : (m page place : ℕ) (file header : List ℕ) → has_magic file ≡ true → taken m file ≡ Some (place, header) → ape_reading m page file ≡ as_ape (reading_over m page file header)
 ape-by m page place file header magic is =
     ap (λ b. cond b (reading_by m page file (taken m file)) (Err NoMagic)) magic
     ∙ ap (reading_by m page file) is
 
-carries : (systems : Systems) (inputs : List Taken) (l : Positions) (rest : List ℕ) (n table : ℕ) (b : List ℕ) (areas : List Area)
-    → All (λ i. Meets i) inputs → MachinesDiffer inputs → Fits inputs l → HasTable inputs l.tables (input_of n b) table
-    → IsLinkedIn (input_of n b) (entries_of b) (bytes_in b) areas table (block_of systems inputs l ++ rest)
-    → Carries b (input_of n b) table (statement_place systems inputs l (input_of n b).machine) (block_of systems inputs l ++ rest)
-carries systems inputs l rest n table b areas meets differ fits has linked =
+carries : (options : Options) (inputs : List Taken) (l : Positions) (rest : List ℕ) (n table : ℕ) (b : List ℕ) (areas : List Area)
+    → All (λ i. Meets i) inputs → MachinesDiffer inputs → Fits options inputs l → HasTable inputs l.tables (input_of n b) table
+    → IsLinkedIn (input_of n b) (entries_of b) (bytes_in b) areas table (block_of options inputs l ++ rest)
+    → Carries b (input_of n b) table (statement_place options inputs l (input_of n b).machine) (block_of options inputs l ++ rest)
+carries options inputs l rest n table b areas meets differ fits has linked =
     let e : Taken = input_of n b in
-    let file : List ℕ = block_of systems inputs l ++ rest in
+    let file : List ℕ = block_of options inputs l ++ rest in
     let header = header_for-input inputs l.tables e table differ has in
     let start = entry-taken n b in
     record {
-      text = parts-holds file (statement_place systems inputs l e.machine) (embedded_bytes e table) (parts-block systems inputs l rest e.machine (embedded_bytes e table) fits header);
-      elf = λ page is. subst (λ s. Same (granule_of e.machine) (bytes_in b) (loads_in (entries_of b)) s (elf_reading (number_of e.machine) page (over file (embedded_bytes e table)))) start
+      text = parts-holds file (statement_place options inputs l e.machine) (embedded_bytes e table) (parts-block options inputs l rest e.machine (embedded_bytes e table) fits header);
+      elf = λ page is. subst (λ s. Same (granule_of e.machine) (bytes_in b) (loads_in (entries_of b)) s nothing_else (elf_reading (number_of e.machine) page (over file (embedded_bytes e table)))) start
           (elf-is-same e (entries_of b) (bytes_in b) areas table file page linked is);
-      ape = λ page is. subst (λ s. Same (granule_of e.machine) (bytes_in b) (loads_in (entries_of b)) s (ape_reading (number_of e.machine) page file)) start
-          (subst (λ r. Same (granule_of e.machine) (bytes_in b) (loads_in (entries_of b)) e.entry r)
-          (sym (ape-by (number_of e.machine) page (statement_place systems inputs l e.machine) file (embedded_bytes e table) (block-magic systems inputs l rest)
-          (taken-block systems inputs l rest e.machine (embedded_bytes e table) meets fits header)))
-          (same-as_ape (granule_of e.machine) (bytes_in b) (loads_in (entries_of b)) e.entry (reading_over (number_of e.machine) page file (embedded_bytes e table))
+      ape = λ page is. subst (λ s. Same (granule_of e.machine) (bytes_in b) (loads_in (entries_of b)) s nothing_else (ape_reading (number_of e.machine) page file)) start
+          (subst (λ r. Same (granule_of e.machine) (bytes_in b) (loads_in (entries_of b)) e.entry nothing_else r)
+          (sym (ape-by (number_of e.machine) page (statement_place options inputs l e.machine) file (embedded_bytes e table) (block-magic options inputs l rest)
+          (taken-block options inputs l rest e.machine (embedded_bytes e table) meets fits header)))
+          (same-as_ape (granule_of e.machine) (bytes_in b) (loads_in (entries_of b)) e.entry nothing_else (reading_over (number_of e.machine) page file (embedded_bytes e table))
           (ape-is-same e (entries_of b) (bytes_in b) areas table file page linked is)));
     }
 
 -- ---- the whole
 
-claimed-file : (systems : Systems) (e : Taken) (a : List ℕ) (o : Option (Taken × List ℕ)) → AreLinkable e (bare-of o)
-    → IsFile (positions_of e (bare-of o)).total (block_claims systems (inputs_of e (bare-of o)) (positions_of e (bare-of o)) ++ tail_claims e a o) (file-of systems e a o)
-claimed-file systems e a o h =
-    whole-claimed (block_for systems e (bare-of o)) (block_claims systems (inputs_of e (bare-of o)) (positions_of e (bare-of o))) e a o (positions_of e (bare-of o)).total
-    (block-claimed systems (inputs_of e (bare-of o)) (positions_of e (bare-of o)) (positions-fit e (bare-of o) h.first h.second)) (file-length systems e a o h)
+claimed-file : (options : Options) (e : Taken) (a : List ℕ) (o : Option (Taken × List ℕ)) → AreLinkable e (bare-of o)
+    → IsFile (positions_of options e (bare-of o)).total (block_claims options (inputs_of e (bare-of o)) (positions_of options e (bare-of o)) ++ tail_claims e a o) (file-of options e a o)
+claimed-file options e a o h =
+    whole-claimed (block_for options e (bare-of o)) (block_claims options (inputs_of e (bare-of o)) (positions_of options e (bare-of o))) e a o (positions_of options e (bare-of o)).total
+    (block-claimed options (inputs_of e (bare-of o)) (positions_of options e (bare-of o)) (positions-fit options e (bare-of o) h.first h.second)) (file-length options e a o h)
 
 taken-with : (b : Option (List ℕ)) → bare-of (second_of b) ≡ taken_second b
 taken-with None = refl
 taken-with (Some x) = refl
 
-pub file-linked : (systems : Systems) (a : List ℕ) (b : Option (List ℕ)) → AreLinkable (input_of 1 a) (taken_second b) → IsLinked systems a b (linked_of systems a b)
+pub file-linked : (options : Options) (a : List ℕ) (b : Option (List ℕ)) → AreLinkable (input_of 1 a) (taken_second b) → IsLinked options a b (linked_of options a b)
 unfolding linked_of
-file-linked systems a None h =
+file-linked options a None h =
     let e : Taken = input_of 1 a in
-    let l : Positions = positions_of e None in
-    let fits = positions-fit e None h.first h.second in
+    let l : Positions = positions_of options e None in
+    let fits = positions-fit options e None h.first h.second in
     let meets = all-meet e None h in
     let differ = machines-differ e None h in
     record {
       bytes = refl;
-      size = file-length systems e a None h;
-      only = λ k. opens-only systems (inputs_of e None) l (tail_of e a None) k meets fits;
-      count = count-places systems (inputs_of e None) l differ fits;
-      first = carries systems (inputs_of e None) l (tail_of e a None) 1 tables_start a (input_areas e BLOCK) meets differ fits (has-first tables_start l.body_end e [] l.tables fits.tables) (first-linked systems 1 a None h);
+      size = file-length options e a None h;
+      only = λ k. opens-only options (inputs_of e None) l (tail_of e a None) k meets fits;
+      count = count-places options (inputs_of e None) l differ fits;
+      first = carries options (inputs_of e None) l (tail_of e a None) 1 (tables_start options (inputs_of e None)) a (input_areas e BLOCK) meets differ fits (has-first (tables_start options (inputs_of e None)) l.body_end e [] l.tables fits.tables) (first-linked options 1 a None h);
       second = tt;
-      claims = claimed-file systems e a None h;
-      agree = claims-agree l.total (linked_claims systems a None) (linked_of systems a None) (claimed-file systems e a None h);
+      claims = claimed-file options e a None h;
+      agree = claims-agree l.total (linked_claims options a None) (linked_of options a None) (claimed-file options e a None h);
     }
-file-linked systems a (Some b) h =
+file-linked options a (Some b) h =
     let e : Taken = input_of 1 a in
     let f : Taken = input_of 2 b in
     let o : Option (Taken × List ℕ) = Some (f, b) in
-    let l : Positions = positions_of e (Some f) in
-    let fits = positions-fit e (Some f) h.first h.second in
+    let l : Positions = positions_of options e (Some f) in
+    let fits = positions-fit options e (Some f) h.first h.second in
     let meets = all-meet e (Some f) h in
     let differ = machines-differ e (Some f) h in
     record {
       bytes = refl;
-      size = file-length systems e a o h;
-      only = λ k. opens-only systems (inputs_of e (Some f)) l (tail_of e a o) k meets fits;
-      count = count-places systems (inputs_of e (Some f)) l differ fits;
-      first = carries systems (inputs_of e (Some f)) l (tail_of e a o) 1 tables_start a (input_areas e BLOCK) meets differ fits
-          (has-first tables_start l.body_end e (f ∷ []) l.tables fits.tables) (first-linked systems 1 a o h);
-      second = carries systems (inputs_of e (Some f)) l (tail_of e a o) 2 (tables_start + table_length e) b (input_areas f (input_end e)) meets differ fits
-          (has-second tables_start l.body_end e f [] l.tables fits.tables) (second-linked systems 2 e a b h);
-      claims = claimed-file systems e a o h;
-      agree = claims-agree l.total (linked_claims systems a (Some b)) (linked_of systems a (Some b)) (claimed-file systems e a o h);
+      size = file-length options e a o h;
+      only = λ k. opens-only options (inputs_of e (Some f)) l (tail_of e a o) k meets fits;
+      count = count-places options (inputs_of e (Some f)) l differ fits;
+      first = carries options (inputs_of e (Some f)) l (tail_of e a o) 1 (tables_start options (inputs_of e (Some f))) a (input_areas e BLOCK) meets differ fits
+          (has-first (tables_start options (inputs_of e (Some f))) l.body_end e (f ∷ []) l.tables fits.tables) (first-linked options 1 a o h);
+      second = carries options (inputs_of e (Some f)) l (tail_of e a o) 2 (tables_start options (inputs_of e (Some f)) + table_length e) b (input_areas f (input_end e)) meets differ fits
+          (has-second (tables_start options (inputs_of e (Some f))) l.body_end e f [] l.tables fits.tables) (second-linked options 2 e a b h);
+      claims = claimed-file options e a o h;
+      agree = claims-agree l.total (linked_claims options a (Some b)) (linked_of options a (Some b)) (claimed-file options e a o h);
     }
 
 -- ---- inputs that break no rule
 
-pub apart-by : (e f : Taken) → first_fault (pair_rules e (Some f)) ≡ None → e.machine ≢ f.machine
-apart-by e f none same =
+pub apart-by : (options : Options) (e f : Taken) → first_fault (pair_rules options e (Some f)) ≡ None → e.machine ≢ f.machine
+apart-by options e f none same =
     let number : number_of e.machine ≡ number_of f.machine = ap number_of same in
     let test : (number_of e.machine == number_of f.machine) ≡ true = grind (arith, nat_tests) in
-    let fails : first_fault (pair_rules e (Some f)) ≡ Some (fault_of 2 23 0 (number_of f.machine)) =
+    let fails : first_fault (pair_rules options e (Some f)) ≡ Some (fault_of 2 23 0 (number_of f.machine)) =
     ap (λ t. cond (not t) None (Some (fault_of 2 23 0 (number_of f.machine)))) test in
     let clash : None ≡ Some (fault_of 2 23 0 (number_of f.machine)) = sym none ∙ fails in
     cc
 
-pub both-linkable : (a : List ℕ) (b : Option (List ℕ)) → first_fault_of_both a b ≡ None → AreLinkable (input_of 1 a) (taken_second b)
-both-linkable a None none = record { first = input_meets 1 a none; second = tt; differ = tt }
-both-linkable a (Some b) none =
+pub both-linkable : (options : Options) (a : List ℕ) (b : Option (List ℕ)) → first_fault_of_both options a b ≡ None → AreLinkable (input_of 1 a) (taken_second b)
+both-linkable options a None none = record { first = input_meets 1 a none; second = tt; differ = tt }
+both-linkable options a (Some b) none =
     let rest : Rules Fault = rules_of 2 b ++ machines_rules (header_of a).e_machine (header_of b).e_machine in
     let one = append-none (rules_of 1 a) rest none in
     let two = append-none (rules_of 2 b) (machines_rules (header_of a).e_machine (header_of b).e_machine) one.1 in
     record {
       first = input_meets 1 a one.0;
       second = input_meets 2 b two.0;
-      differ = apart-by (input_of 1 a) (input_of 2 b) (sym (pair-says a (Some b) (input_of 1 a) (Some (input_of 2 b)) ((one.0, refl), (two.0, refl))) ∙ none);
+      differ = apart-by options (input_of 1 a) (input_of 2 b) (sym (pair-says options a (Some b) (input_of 1 a) (Some (input_of 2 b)) ((one.0, refl), (two.0, refl))) ∙ none);
     }
 
 -- the linked file of inputs that break no rule
-pub linked-where : (systems : Systems) (a : List ℕ) (b : Option (List ℕ)) → first_fault_of_both a b ≡ None → IsLinked systems a b (linked_of systems a b)
-linked-where systems a b none = file-linked systems a b (both-linkable a b none)
+pub linked-where : (options : Options) (a : List ℕ) (b : Option (List ℕ)) → first_fault_of_both options a b ≡ None → IsLinked options a b (linked_of options a b)
+linked-where options a b none = file-linked options a b (both-linkable options a b none)
 
 -- the file of what was taken of them
-pub linked-one : (systems : Systems) (a : List ℕ) (e : Taken) → e ≡ input_of 1 a → block_for systems e None ++ tail_of e a None ≡ linked_of systems a None
+pub linked-one : (options : Options) (a : List ℕ) (e : Taken) → e ≡ input_of 1 a → block_for options e None ++ tail_of e a None ≡ linked_of options a None
 unfolding linked_of
-linked-one systems a e is = ap (λ (x : Taken). block_for systems x None ++ tail_of x a None) is
+linked-one options a e is = ap (λ (x : Taken). block_for options x None ++ tail_of x a None) is
 
-pub linked-two : (systems : Systems) (a b : List ℕ) (e f : Taken) → e ≡ input_of 1 a → f ≡ input_of 2 b → block_for systems e (Some f) ++ tail_of e a (Some (f, b)) ≡ linked_of systems a (Some b)
+pub linked-two : (options : Options) (a b : List ℕ) (e f : Taken) → e ≡ input_of 1 a → f ≡ input_of 2 b → block_for options e (Some f) ++ tail_of e a (Some (f, b)) ≡ linked_of options a (Some b)
 unfolding linked_of
-linked-two systems a b e f is also =
-    ap (λ (x : Taken). block_for systems x (Some f) ++ tail_of x a (Some (f, b))) is
-    ∙ ap (λ (y : Taken). block_for systems (input_of 1 a) (Some y) ++ tail_of (input_of 1 a) a (Some (y, b))) also
+linked-two options a b e f is also =
+    ap (λ (x : Taken). block_for options x (Some f) ++ tail_of x a (Some (f, b))) is
+    ∙ ap (λ (y : Taken). block_for options (input_of 1 a) (Some y) ++ tail_of (input_of 1 a) a (Some (y, b))) also

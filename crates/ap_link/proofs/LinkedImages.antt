@@ -24,11 +24,11 @@ use Rattle.ap_elfmap.specs.Laws.{cells-by}
 use Rattle.ap_layout.specs.declared.layout.Area.{Area}
 use Rattle.ap_layout.specs.Positions.{entry_count}
 use Rattle.ap_script.specs.Tables.{load_entries, table_of, embedded_header, embedded_bytes, table_text}
-use Rattle.ap_link.specs.Same.{Same}
+use Rattle.ap_link.specs.Same.{Same, nothing_else}
 use Rattle.ap_link.specs.LinkedIn.{IsHeld, HoldAll, IsLinkedIn}
 use Rattle.ap_link.specs.Images.{ElfIsSame, ApeIsSame}
 use Rattle.ap_link.proofs.Granules.{IsPaged, granule-is, paged}
-use Rattle.ap_link.proofs.Shown.{ShowAll, nothing_else, same-image}
+use Rattle.ap_link.proofs.Shown.{ShowAll, same-image}
 use Rattle.ap_link.proofs.Rows.{table-loads, table-still, length-table_of, length-loads}
 use Rattle.ap_link.proofs.Passing.{loads-pass, regions-show}
 use Rattle.ap_link.proofs.Holding.{length-over, over-holds}
@@ -125,7 +125,7 @@ reading-passes e byte areas at page file paging meets held long fits =
 -- the reading by the embedded header and the table, whose cells show a file's bytes
 pub same-read : (e : Taken) (entries : List Entry) (byte : ℕ → ℕ) (areas : List Area) (at page : ℕ) (file : List ℕ) → IsPage e.machine page → Meets e → e.loads ≡ loads_of entries
     → HoldAll (granule_of e.machine) byte file e.loads areas → 64 ≤ length file → at + 56 * entry_count e ≤ length file
-    → Same (granule_of e.machine) byte (loads_in entries) e.entry (elf_reading_by (number_of e.machine) page (length file) (embedded_header e at) (table_of e areas) (bytes_in file))
+    → Same (granule_of e.machine) byte (loads_in entries) e.entry nothing_else (elf_reading_by (number_of e.machine) page (length file) (embedded_header e at) (table_of e areas) (bytes_in file))
 same-read e entries byte areas at page file is meets loads held long fits =
     let g : ℕ = granule_of e.machine in
     let granule : IsGranule g = granule-is e.machine in
@@ -141,7 +141,7 @@ same-read e entries byte areas at page file is meets loads held long fits =
     let there = sym (ap (λ (l : List Entry). map (region_of page len) l) (table-loads e areas e.size meets.loads)) in
     let order : AreLoads g e.size 0 (loads_of entries) = subst (AreLoads g e.size 0) loads meets.loads in
     let shows = subst (λ (l : List Load). ShowAll g byte (bytes_in file) nothing_else l m.regions) loads (subst (ShowAll g byte (bytes_in file) nothing_else e.loads) there shown) in
-    rw none (same-image g e.size byte (bytes_in file) (loads_in entries) m.regions e.entry image granule order (entry-is e at) planned.cells shows)
+    rw none (same-image g e.size byte (bytes_in file) nothing_else (loads_in entries) m.regions e.entry image granule order (entry-is e at) planned.cells shows)
 
 -- the file that is read is the one with the header over its first bytes
 pub elf-is-same : ElfIsSame

@@ -18,7 +18,8 @@ use Rattle.ap_script.specs.Tables.{load_entry, load_entries}
 use Rattle.ap_link.specs.LinkedIn.{IsHeld, HoldAll}
 use Rattle.ap_link.proofs.Granules.{IsPaged, ceil-least, floor-sum, mod-on}
 use Rattle.ap_link.proofs.Contents.{content-room, content-whole, length-content}
-use Rattle.ap_link.proofs.Shown.{IsBackedBy, ShowAll, nothing_else, backed-shows}
+use Rattle.ap_link.specs.Same.{nothing_else}
+use Rattle.ap_link.proofs.Shown.{IsBackedBy, ShowAll, backed-shows}
 
 -- an area lies in the file
 pub area-fits : (g : ℕ) (byte : ℕ → ℕ) (file : List ℕ) (p : Load) (x : Area) → IsGranule g → IsHeld g byte file p x → 0 < p.filesz → x.file + content_length g p ≤ length file

@@ -112,10 +112,6 @@ backed-shows g byte file p x r is held h = record {
       ];
 }
 
--- nothing is found but what shows loads
-abbrev pub nothing_else : ℕ → Option Cell → Type 0
-nothing_else a found = ⊥
-
 -- what is found at an address is the cell of the loads there, or, where they have none, nothing, a zero beside a load, or
 -- what else is allowed
 abbrev pub IsFoundAt : ℕ → (ℕ → Option Cell → Type 0) → List Entry → ℕ → Option Cell → Option Cell → Type 0
@@ -243,22 +239,16 @@ found-cells g size byte shown Else low (p ∷ entries) (r ∷ regions) a is orde
     else-cells g size byte shown Else low (p ∷ entries) r regions a is order h.0
     (found-cells g size byte shown Else low (p ∷ entries) regions a is order h.1)
 
-only-beside : (g : ℕ) (entries : List Entry) (a : ℕ) (found : Option Cell) → IsFoundAt g nothing_else entries a None found → (found ≡ None) ⊎ IsBeside g entries a found
-only-beside g entries a found h =
-    elim h [
-      | inl none ↦ inl none
-      | inr more ↦ elim more [ inl beside ↦ inr beside | inr other ↦ absurd other ]
-    ]
-
--- One lemma for all readings: an image whose cells are those of regions that show an input's loads is the input's image.
-pub same-image : (g size : ℕ) (byte shown : ℕ → ℕ) (entries : List Entry) (regions : List Region) (start : ℕ) (image : MemoryImage) → IsGranule g
-    → AreLoads g size 0 (map load_of entries) → image.entry ≡ start → ((a : ℕ) → cell_in shown regions a ≡ image.cell a) → ShowAll g byte shown nothing_else (map load_of entries) regions
-    → HasImage g byte entries start image
-same-image g size byte shown entries regions start image is order entry cells h =
-    let found : (a : ℕ) → IsFoundAt g nothing_else entries a (input_cell byte entries a) (image.cell a) =
-    λ a. subst (IsFoundAt g nothing_else entries a (input_cell byte entries a)) (cells a) (found-cells g size byte shown nothing_else 0 entries regions a is order h) in
+-- One lemma for all readings: an image whose cells are those of regions that show an input's loads, and else what is allowed, is
+-- the input's image.
+pub same-image : (g size : ℕ) (byte shown : ℕ → ℕ) (Else : ℕ → Option Cell → Type 0) (entries : List Entry) (regions : List Region) (start : ℕ) (image : MemoryImage) → IsGranule g
+    → AreLoads g size 0 (map load_of entries) → image.entry ≡ start → ((a : ℕ) → cell_in shown regions a ≡ image.cell a) → ShowAll g byte shown Else (map load_of entries) regions
+    → HasImage g byte entries start Else image
+same-image g size byte shown Else entries regions start image is order entry cells h =
+    let found : (a : ℕ) → IsFoundAt g Else entries a (input_cell byte entries a) (image.cell a) =
+    λ a. subst (IsFoundAt g Else entries a (input_cell byte entries a)) (cells a) (found-cells g size byte shown Else 0 entries regions a is order h) in
     record {
       entry = entry;
-      cells = λ a c e. subst (λ (x : Option Cell). IsFoundAt g nothing_else entries a x (image.cell a)) e (found a);
-      others = λ a e. only-beside g entries a (image.cell a) (subst (λ (x : Option Cell). IsFoundAt g nothing_else entries a x (image.cell a)) e (found a));
+      cells = λ a c e. subst (λ (x : Option Cell). IsFoundAt g Else entries a x (image.cell a)) e (found a);
+      others = λ a e. subst (λ (x : Option Cell). IsFoundAt g Else entries a x (image.cell a)) e (found a);
     }

@@ -6,7 +6,7 @@ use Rattle.ap_fields.specs.Readings.{bytes_in}
 use Rattle.ap_claims.specs.Files.{IsFile, Agree}
 use Rattle.ap_elf.specs.Fields.{header_of, entries_of, loads_in}
 use Rattle.ap_elf.specs.ElfReading.{elf_reading}
-use Rattle.ap_check.specs.declared.options.Systems.{Systems}
+use Rattle.ap_check.specs.declared.options.Options.{Options}
 use Rattle.ap_elf.specs.Machines.{granule_of, number_of}
 use Rattle.ap_check.specs.Inputs.{Taken, input_of}
 use Rattle.ap_check.specs.Both.{first_fault_of_both}
@@ -19,7 +19,7 @@ use Rattle.ap_script.specs.Tables.{embedded_bytes}
 use Rattle.ap_script.specs.Stands.{statement_place, statement_places}
 use Rattle.ap_link.specs.declared.fault.LinkFault.{LinkFault}
 use Rattle.ap_link.specs.declared.fault.LinkFault.TheVariants as fault
-use Rattle.ap_link.specs.Same.{Same}
+use Rattle.ap_link.specs.Same.{Same, nothing_else}
 use Rattle.ap_link.specs.Linked.{linked_of, taken_second}
 use Rattle.ap_link.specs.LinkedClaims.{linked_claims}
 
@@ -27,8 +27,8 @@ use Rattle.ap_link.specs.LinkedClaims.{linked_claims}
 abbrev pub inputs_in : List ℕ → Option (List ℕ) → List Taken
 inputs_in a b = inputs_of (input_of 1 a) (taken_second b)
 
-abbrev pub positions_in : List ℕ → Option (List ℕ) → Positions
-positions_in a b = positions_of (input_of 1 a) (taken_second b)
+abbrev pub positions_in : Options → List ℕ → Option (List ℕ) → Positions
+positions_in options a b = positions_of options (input_of 1 a) (taken_second b)
 
 -- what stands of an input of these bytes, taken as e, in a file where its program header table has a place: the statement of
 -- its embedded header stands at its place, and what the readings find at each page size, in the file with that header over
@@ -36,35 +36,35 @@ positions_in a b = positions_of (input_of 1 a) (taken_second b)
 pub record Carries (input : List ℕ) (e : Taken) (table statement : ℕ) (file : List ℕ) : Type 0 where
   pub text : Holds file statement (statement_of (embedded_bytes e table))
   pub elf : (page : ℕ) → IsPage e.machine page
-      → Same (granule_of e.machine) (bytes_in input) (loads_in (entries_of input)) (header_of input).e_entry (elf_reading (number_of e.machine) page (over file (embedded_bytes e table)))
+      → Same (granule_of e.machine) (bytes_in input) (loads_in (entries_of input)) (header_of input).e_entry nothing_else (elf_reading (number_of e.machine) page (over file (embedded_bytes e table)))
   pub ape : (page : ℕ) → IsPage e.machine page
-      → Same (granule_of e.machine) (bytes_in input) (loads_in (entries_of input)) (header_of input).e_entry (ape_reading (number_of e.machine) page file)
+      → Same (granule_of e.machine) (bytes_in input) (loads_in (entries_of input)) (header_of input).e_entry nothing_else (ape_reading (number_of e.machine) page file)
 
-abbrev pub CarriesFirst : Systems → List ℕ → Option (List ℕ) → List ℕ → Type 0
-CarriesFirst systems a b file =
+abbrev pub CarriesFirst : Options → List ℕ → Option (List ℕ) → List ℕ → Type 0
+CarriesFirst options a b file =
     let e = input_of 1 a in
-    Carries a e tables_start (statement_place systems (inputs_in a b) (positions_in a b) e.machine) file
+    Carries a e (tables_start options (inputs_in a b)) (statement_place options (inputs_in a b) (positions_in options a b) e.machine) file
 
-abbrev pub CarriesSecond : Systems → List ℕ → List ℕ → List ℕ → Type 0
-CarriesSecond systems a b file =
+abbrev pub CarriesSecond : Options → List ℕ → List ℕ → List ℕ → Type 0
+CarriesSecond options a b file =
     let e = input_of 2 b in
-    Carries b e (tables_start + table_length (input_of 1 a)) (statement_place systems (inputs_in a (Some b)) (positions_in a (Some b)) e.machine) file
+    Carries b e (tables_start options (inputs_in a (Some b)) + table_length (input_of 1 a)) (statement_place options (inputs_in a (Some b)) (positions_in options a (Some b)) e.machine) file
 
 -- What a linked file of one or two inputs is, and what stands of it: its bytes and its size; that `printf '` stands in its
 -- window where the script has statements and nowhere else, which are one for each input, that for x86-64 first; what it carries
 -- of each input; and that it is the file of its claims, which agree where they meet.
-pub record IsLinked (systems : Systems) (a : List ℕ) (b : Option (List ℕ)) (file : List ℕ) : Type 0 where
-  pub bytes : file ≡ linked_of systems a b
-  pub size : length file ≡ (positions_in a b).total
-  pub only : (k : ℕ) → Opens file k ↔ Contains (statement_places systems (inputs_in a b) (positions_in a b)) k
-  pub count : length (statement_places systems (inputs_in a b) (positions_in a b)) ≡ length (inputs_in a b)
-  pub first : CarriesFirst systems a b file
-  pub second : IfSome b (λ c. CarriesSecond systems a c file)
-  pub claims : IsFile (positions_in a b).total (linked_claims systems a b) file
-  pub agree : Agree (linked_claims systems a b)
+pub record IsLinked (options : Options) (a : List ℕ) (b : Option (List ℕ)) (file : List ℕ) : Type 0 where
+  pub bytes : file ≡ linked_of options a b
+  pub size : length file ≡ (positions_in options a b).total
+  pub only : (k : ℕ) → Opens file k ↔ Contains (statement_places options (inputs_in a b) (positions_in options a b)) k
+  pub count : length (statement_places options (inputs_in a b) (positions_in options a b)) ≡ length (inputs_in a b)
+  pub first : CarriesFirst options a b file
+  pub second : IfSome b (λ c. CarriesSecond options a c file)
+  pub claims : IsFile (positions_in options a b).total (linked_claims options a b) file
+  pub agree : Agree (linked_claims options a b)
 
 -- the linked file where all rules hold, else the fault of the first that doesn't, unless memory runs out
-abbrev pub LinkAnswers : Systems → Result (Vec ℕ Global) LinkFault → List ℕ → Option (List ℕ) → Type 0
-LinkAnswers systems (Ok file) a b = (first_fault_of_both a b ≡ None) × IsLinked systems a b file.items
-LinkAnswers systems (Err (fault.Rule broken)) a b = first_fault_of_both a b ≡ Some broken
-LinkAnswers systems (Err fault.NoMemory) a b = Unit {0}
+abbrev pub LinkAnswers : Options → Result (Vec ℕ Global) LinkFault → List ℕ → Option (List ℕ) → Type 0
+LinkAnswers options (Ok file) a b = (first_fault_of_both options a b ≡ None) × IsLinked options a b file.items
+LinkAnswers options (Err (fault.Rule broken)) a b = first_fault_of_both options a b ≡ Some broken
+LinkAnswers options (Err fault.NoMemory) a b = Unit {0}

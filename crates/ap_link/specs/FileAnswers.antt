@@ -4,7 +4,7 @@ use Rattle.ap_files.specs.Files.{FileMap, FileState, KeepsCounts, with_file}
 use Rattle.ap_files.specs.Reads.{HasFile, Unread}
 use Rattle.ap_files.specs.Appends.{ReadRose, WriteRose}
 use Rattle.ap_check.specs.declared.fault.Fault.{Fault}
-use Rattle.ap_check.specs.declared.options.Systems.{Systems}
+use Rattle.ap_check.specs.declared.options.Options.{Options}
 use Rattle.ap_check.specs.Rules.{first_fault_of}
 use Rattle.ap_check.specs.Both.{first_fault_of_both}
 use Rattle.ap_link.specs.declared.end.LinkEnd.{LinkEnd}
@@ -22,16 +22,16 @@ abbrev pub HasInputs : Option FileMap → List ℕ → Option (List ℕ) → (Li
 HasInputs kept first second P = HasFile kept first (λ a. HasSecond kept second (P a))
 
 -- no call failed, and the file `out` holds the linked file of the inputs, which meet all rules, and has this size
-pub record FilesLinked (systems : Systems) (old new : FileState) (first : List ℕ) (second : Option (List ℕ)) (out : List ℕ) (n : ℕ) : Type 0 where
+pub record FilesLinked (options : Options) (old new : FileState) (first : List ℕ) (second : Option (List ℕ)) (out : List ℕ) (n : ℕ) : Type 0 where
   pub counts : KeepsCounts old new
   pub unfinished : (m : FileMap) → old.kept ≡ Some m → new.unfinished ≡ None
-  pub linked : HasInputs old.kept first second (λ a b. (first_fault_of_both a b ≡ None) × (new.kept ≡ with_file old.kept out (linked_of systems a b)) × IsLinked systems a b (linked_of systems a b))
-  pub size : HasInputs old.kept first second (λ a b. n ≡ length (linked_of systems a b))
+  pub linked : HasInputs old.kept first second (λ a b. (first_fault_of_both options a b ≡ None) × (new.kept ≡ with_file old.kept out (linked_of options a b)) × IsLinked options a b (linked_of options a b))
+  pub size : HasInputs old.kept first second (λ a b. n ≡ length (linked_of options a b))
 
 -- the first rule that the inputs break; where input 1 breaks one, input 2 needn't be there
-abbrev pub AreRefused : Option FileMap → List ℕ → Option (List ℕ) → Fault → Type 0
-AreRefused kept first second broken =
-    HasFile kept first (λ a. (first_fault_of 1 a ≡ Some broken) ⊎ ((first_fault_of 1 a ≡ None) × HasSecond kept second (λ b. first_fault_of_both a b ≡ Some broken)))
+abbrev pub AreRefused : Options → Option FileMap → List ℕ → Option (List ℕ) → Fault → Type 0
+AreRefused options kept first second broken =
+    HasFile kept first (λ a. (first_fault_of 1 a ≡ Some broken) ⊎ ((first_fault_of 1 a ≡ None) × HasSecond kept second (λ b. first_fault_of_both options a b ≡ Some broken)))
 
 -- an input wasn't read: the first, or, where that breaks no rule, the second
 abbrev pub AreUnread : FileState → FileState → List ℕ → Option (List ℕ) → Type 0
@@ -39,18 +39,18 @@ AreUnread old new first None = Unread old new first
 AreUnread old new first (Some second) = Unread old new first ⊎ (Unread old new second × HasFile old.kept first (λ a. first_fault_of 1 a ≡ None))
 
 -- the inputs meet all rules, and `out` was started and has a front of their linked file
-abbrev pub HasFront : Systems → FileState → FileState → List ℕ → Option (List ℕ) → List ℕ → Type 0
-HasFront systems old new first second out =
-    HasInputs old.kept first second (λ a b. (first_fault_of_both a b ≡ None) × ((n : ℕ) × (new.kept ≡ with_file old.kept out (take n (linked_of systems a b)))))
+abbrev pub HasFront : Options → FileState → FileState → List ℕ → Option (List ℕ) → List ℕ → Type 0
+HasFront options old new first second out =
+    HasInputs old.kept first second (λ a b. (first_fault_of_both options a b ≡ None) × ((n : ℕ) × (new.kept ≡ with_file old.kept out (take n (linked_of options a b)))))
 
 -- the inputs meet all rules, and `out` wasn't started, or has a front of their linked file
-abbrev pub HasFrontOrNothing : Systems → FileState → FileState → List ℕ → Option (List ℕ) → List ℕ → Type 0
-HasFrontOrNothing systems old new first second out =
-    HasInputs old.kept first second (λ a b. (first_fault_of_both a b ≡ None) × ((new.kept ≡ old.kept) ⊎ ((n : ℕ) × (new.kept ≡ with_file old.kept out (take n (linked_of systems a b))))))
+abbrev pub HasFrontOrNothing : Options → FileState → FileState → List ℕ → Option (List ℕ) → List ℕ → Type 0
+HasFrontOrNothing options old new first second out =
+    HasInputs old.kept first second (λ a b. (first_fault_of_both options a b ≡ None) × ((new.kept ≡ old.kept) ⊎ ((n : ℕ) × (new.kept ≡ with_file old.kept out (take n (linked_of options a b))))))
 
 -- how a link of files ends
-abbrev pub LinksFiles : Systems → FileState → FileState → List ℕ → Option (List ℕ) → List ℕ → Result ℕ LinkEnd → Type 0
-LinksFiles systems old new first second out (Ok size) = FilesLinked systems old new first second out size
-LinksFiles systems old new first second out (Err (Rule broken)) = (new ≡ old) × AreRefused old.kept first second broken
-LinksFiles systems old new first second out (Err ReadFault) = AreUnread old new first second ⊎ (ReadRose old new × HasFront systems old new first second out)
-LinksFiles systems old new first second out (Err WriteFault) = WriteRose old new × HasFrontOrNothing systems old new first second out
+abbrev pub LinksFiles : Options → FileState → FileState → List ℕ → Option (List ℕ) → List ℕ → Result ℕ LinkEnd → Type 0
+LinksFiles options old new first second out (Ok size) = FilesLinked options old new first second out size
+LinksFiles options old new first second out (Err (Rule broken)) = (new ≡ old) × AreRefused options old.kept first second broken
+LinksFiles options old new first second out (Err ReadFault) = AreUnread old new first second ⊎ (ReadRose old new × HasFront options old new first second out)
+LinksFiles options old new first second out (Err WriteFault) = WriteRose old new × HasFrontOrNothing options old new first second out

@@ -10,17 +10,17 @@ use Rattle.ap_layout.specs.declared.layout.Area.{Area}
 use Rattle.ap_script.specs.Tables.{embedded_bytes}
 use Rattle.ap_elf.specs.Machines.{IsPage}
 use Rattle.ap_loader.specs.ApeReading.{reading_over}
-use Rattle.ap_link.specs.Same.{Same}
+use Rattle.ap_link.specs.Same.{Same, nothing_else}
 use Rattle.ap_link.specs.LinkedIn.{IsLinkedIn}
 
 -- the ELF reading of the file with the input's header over its first bytes, as the script leaves it
 abbrev pub ElfIsSame : Type 0
 ElfIsSame = (e : Taken) (entries : List Entry) (byte : ℕ → ℕ) (areas : List Area) (at : ℕ) (file : List ℕ) (page : ℕ)
     → IsLinkedIn e entries byte areas at file → IsPage e.machine page
-    → Same (granule_of e.machine) byte (loads_in entries) e.entry (elf_reading (number_of e.machine) page (over file (embedded_bytes e at)))
+    → Same (granule_of e.machine) byte (loads_in entries) e.entry nothing_else (elf_reading (number_of e.machine) page (over file (embedded_bytes e at)))
 
 -- the reading of the file itself with the input's header, as the APE reading has it from a statement
 abbrev pub ApeIsSame : Type 0
 ApeIsSame = (e : Taken) (entries : List Entry) (byte : ℕ → ℕ) (areas : List Area) (at : ℕ) (file : List ℕ) (page : ℕ)
     → IsLinkedIn e entries byte areas at file → IsPage e.machine page
-    → Same (granule_of e.machine) byte (loads_in entries) e.entry (reading_over (number_of e.machine) page file (embedded_bytes e at))
+    → Same (granule_of e.machine) byte (loads_in entries) e.entry nothing_else (reading_over (number_of e.machine) page file (embedded_bytes e at))

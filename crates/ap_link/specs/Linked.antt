@@ -4,7 +4,7 @@ use Rattle.ap_fields.specs.Bytes.{zeros}
 use Rattle.ap_fields.specs.Readings.{bytes_in}
 use Rattle.ap_fields.specs.declared.sizes.TheConstants.{BLOCK}
 use Rattle.ap_check.specs.declared.load.Load.{Load}
-use Rattle.ap_check.specs.declared.options.Systems.{Systems}
+use Rattle.ap_check.specs.declared.options.Options.{Options}
 use Rattle.ap_elf.specs.Machines.{granule_of}
 use Rattle.ap_check.specs.Inputs.{Taken, input_of}
 use Rattle.ap_layout.specs.declared.layout.Area.{Area}
@@ -34,8 +34,8 @@ tail_of e b None = input_text BLOCK e b
 tail_of e b (Some (f, c)) = input_text BLOCK e b ++ input_text (input_end e) f c
 
 -- the block of one or two inputs
-abbrev pub block_for : Systems → Taken → Option Taken → List ℕ
-block_for systems e o = block_of systems (inputs_of e o) (positions_of e o)
+abbrev pub block_for : Options → Taken → Option Taken → List ℕ
+block_for options e o = block_of options (inputs_of e o) (positions_of options e o)
 
 -- the second input, as it is taken, with its bytes
 abbrev pub second_of : Option (List ℕ) → Option (Taken × List ℕ)
@@ -46,9 +46,9 @@ abbrev pub taken_second : Option (List ℕ) → Option Taken
 taken_second None = None
 taken_second (Some b) = Some (input_of 2 b)
 
--- the linked file of one or two inputs for some systems, by their bytes
-unfoldable pub linked_of : Systems → List ℕ → Option (List ℕ) → List ℕ
-linked_of systems a b = block_for systems (input_of 1 a) (taken_second b) ++ tail_of (input_of 1 a) a (second_of b)
+-- the linked file of one or two inputs for some options, by their bytes
+unfoldable pub linked_of : Options → List ℕ → Option (List ℕ) → List ℕ
+linked_of options a b = block_for options (input_of 1 a) (taken_second b) ++ tail_of (input_of 1 a) a (second_of b)
 
 -- a second input that is taken, with its bytes
 abbrev pub with_bytes : Option Taken → List ℕ → Option (Taken × List ℕ)

@@ -5,7 +5,7 @@ use Rattle.ap_fields.specs.declared.sizes.TheConstants.{BLOCK}
 use Rattle.ap_claims.specs.declared.owner.Owner.TheVariants as owner
 use Rattle.ap_claims.specs.Lists.{Claim}
 use Rattle.ap_check.specs.declared.load.Load.{Load}
-use Rattle.ap_check.specs.declared.options.Systems.{Systems}
+use Rattle.ap_check.specs.declared.options.Options.{Options}
 use Rattle.ap_elf.specs.Machines.{granule_of}
 use Rattle.ap_check.specs.Inputs.{Taken, input_of}
 use Rattle.ap_layout.specs.declared.layout.Area.{Area}
@@ -31,7 +31,7 @@ abbrev pub tail_claims : Taken → List ℕ → Option (Taken × List ℕ) → L
 tail_claims e a None = input_claims BLOCK e a
 tail_claims e a (Some (f, b)) = input_claims BLOCK e a ++ input_claims (input_end e) f b
 
-abbrev pub linked_claims : Systems → List ℕ → Option (List ℕ) → List Claim
-linked_claims systems a b =
-    block_claims systems (inputs_of (input_of 1 a) (taken_second b)) (positions_of (input_of 1 a) (taken_second b))
+abbrev pub linked_claims : Options → List ℕ → Option (List ℕ) → List Claim
+linked_claims options a b =
+    block_claims options (inputs_of (input_of 1 a) (taken_second b)) (positions_of options (input_of 1 a) (taken_second b))
     ++ tail_claims (input_of 1 a) a (second_of b)

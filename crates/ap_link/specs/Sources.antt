@@ -4,8 +4,10 @@ use Rattle.ap_files.specs.Files.{FileMap}
 use Rattle.ap_files.specs.Reads.{HasFile, HasSize}
 use Rattle.ap_check.specs.declared.end.CheckEnd.{CheckEnd}
 use Rattle.ap_check.specs.declared.end.CheckEnd.TheVariants as check
+use Rattle.ap_check.specs.declared.options.Options.{Options}
 use Rattle.ap_check.specs.Inputs.{Taken}
 use Rattle.ap_check.specs.Both.{IsTakenOf}
+use Rattle.ap_layout.specs.Positions.{Positions, positions_of}
 use Rattle.ap_link.specs.declared.copy.CopyFault.{CopyFault}
 use Rattle.ap_link.specs.declared.copy.CopyFault.TheVariants as copy
 use Rattle.ap_link.specs.declared.end.LinkEnd.{LinkEnd}
@@ -31,6 +33,10 @@ pub record IsSource (kept : Option FileMap) (n : ℕ) (s : Source) : Type 0 wher
   pub told : HasFile kept s.name.now (λ b. IsTakenOf n b s.input.now)
   pub size : HasSize kept s.name.now s.input.now.size
   pub number : s.input.now.number ≡ n
+
+-- the positions of one or two inputs, whatever the options are
+abbrev pub ArePositions : Taken → Option Taken → Positions → Type 0
+ArePositions e o l = (options : Options) × (l ≡ positions_of options e o)
 
 -- how a link ends where an input isn't taken, and where a file isn't made
 abbrev pub end_of_check : CheckEnd → LinkEnd

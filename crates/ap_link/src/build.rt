@@ -31,8 +31,8 @@ pub fn build(
     requires first { length first.now ≡ job.now.first.now.size }
     requires second { IfSome (option_copied job.now.second) (λ e. length second.now ≡ e.size) }
     requires free { block.old ≡ free_block }
-    ensures filled { IsFilled (block_claims job.now.options.systems (job_inputs job.now) (positions_of job.now.first.now (option_copied job.now.second))) block.new }
-    ensures file { IfOk result (λ v. v.items ≡ block_for job.now.options.systems job.now.first.now (option_copied job.now.second) ++ tail_of job.now.first.now first.now (with_bytes (option_copied job.now.second) second.now)) }
+    ensures filled { IsFilled (block_claims job.now.options (job_inputs job.now) (positions_of job.now.options job.now.first.now (option_copied job.now.second))) block.new }
+    ensures file { IfOk result (λ v. v.items ≡ block_for job.now.options job.now.first.now (option_copied job.now.second) ++ tail_of job.now.first.now first.now (with_bytes (option_copied job.now.second) second.now)) }
 {
     let lay = place(job);
     fill(block, job, &lay);
@@ -50,7 +50,7 @@ fn push_inputs(
     first: &[u8],
     second: &[u8],
 ) -> Result<(), AllocError>
-    requires positions { lay.now ≡ positions_of job.now.first.now (option_copied job.now.second) }
+    requires positions { lay.now ≡ positions_of job.now.options job.now.first.now (option_copied job.now.second) }
     requires first { length first.now ≡ job.now.first.now.size }
     requires second { IfSome (option_copied job.now.second) (λ e. length second.now ≡ e.size) }
     ensures { OnOk result (out.new.items ≡ out.old.items ++ tail_of job.now.first.now first.now (with_bytes (option_copied job.now.second) second.now)) }

@@ -1,6 +1,7 @@
 // The linker, in memory.
 ghost use Rattle.std.specs.Prelude.{◌≡◌, None, Some, option_copied};
 ghost use Rattle.ap_claims.specs.Blocks.{free_block};
+ghost use Rattle.ap_check.specs.Options.{AreTaken};
 ghost use Rattle.ap_check.specs.Both.{IsTakenOf};
 ghost use Rattle.ap_link.specs.Answers.{LinkAnswers};
 ghost use Rattle.ap_link.specs.Lent.{Lends};
@@ -26,9 +27,10 @@ pub fn link(
     options: &Options,
     block: &mut Block,
 ) -> Result<Vec<u8>, LinkFault>
-    requires { block.old ≡ free_block }
-    ensures file { LinkAnswers options.now.systems result first.now (option_copied second.entry) }
-    ensures block { Lends options.now.systems block.old block.new first.now (option_copied second.entry) result }
+    requires options { AreTaken options.now }
+    requires free { block.old ≡ free_block }
+    ensures file { LinkAnswers options.now result first.now (option_copied second.entry) }
+    ensures block { Lends options.now block.old block.new first.now (option_copied second.entry) result }
 {
     let one = match check_input(first, 1) {
         Ok(one) => one,
@@ -52,9 +54,10 @@ fn link_one(
     block: &mut Block,
 ) -> Result<Vec<u8>, LinkFault>
     requires taken { IsTakenOf 1 first.now one.now }
+    requires options { AreTaken options.now }
     requires free { block.old ≡ free_block }
-    ensures file { LinkAnswers options.now.systems result first.now None }
-    ensures block { Lends options.now.systems block.old block.new first.now None result }
+    ensures file { LinkAnswers options.now result first.now None }
+    ensures block { Lends options.now block.old block.new first.now None result }
 {
     let job = match check_all(one, None, options) {
         Ok(job) => job,
@@ -78,9 +81,10 @@ fn link_two(
 ) -> Result<Vec<u8>, LinkFault>
     requires first { IsTakenOf 1 first.now one.now }
     requires second { IsTakenOf 2 second.now two.now }
+    requires options { AreTaken options.now }
     requires free { block.old ≡ free_block }
-    ensures file { LinkAnswers options.now.systems result first.now (Some second.now) }
-    ensures block { Lends options.now.systems block.old block.new first.now (Some second.now) result }
+    ensures file { LinkAnswers options.now result first.now (Some second.now) }
+    ensures block { Lends options.now block.old block.new first.now (Some second.now) result }
 {
     let job = match check_all(one, Some(two), options) {
         Ok(job) => job,

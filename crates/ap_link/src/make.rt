@@ -3,9 +3,9 @@ ghost use Rattle.std.specs.Prelude.{◌≡◌, ◌≢◌, ◌<◌, ◌++◌, ◌
 ghost use Rattle.ap_fields.specs.declared.sizes.TheConstants.{BLOCK};
 ghost use Rattle.ap_files.specs.Files.{IsPresent};
 ghost use Rattle.ap_files.specs.Reads.{HasSize};
-ghost use Rattle.ap_layout.specs.Positions.{positions_of, input_areas};
+ghost use Rattle.ap_layout.specs.Positions.{input_areas};
 ghost use Rattle.ap_link.specs.Linked.{input_text, tail_of};
-ghost use Rattle.ap_link.specs.Sources.{second_name, second_taken, second_bytes};
+ghost use Rattle.ap_link.specs.Sources.{ArePositions, second_name, second_taken, second_bytes};
 ghost use Rattle.ap_link.specs.Transfers.{Makes, Puts, PutsAll};
 
 use crate::areas::{Placed, put_areas};
@@ -25,7 +25,7 @@ pub fn make_file<F: Files>(
     block: &[u8],
     out: &str,
 ) -> Result<(), CopyFault>
-    requires lay { lay.now ≡ positions_of sources.now.first.input.now (second_taken sources.now.second) }
+    requires lay { ArePositions sources.now.first.input.now (second_taken sources.now.second) lay.now }
     requires small { lay.now.total < 2 ^ 31 }
     requires first { HasSize (F.state files.old).kept sources.now.first.name.now sources.now.first.input.now.size }
     requires second { IfSome sources.now.second (λ s. HasSize (F.state files.old).kept s.name.now s.input.now.size) }
@@ -53,7 +53,7 @@ fn put_file<F: Files>(
     block: &[u8],
     out: &str,
 ) -> Result<(), CopyFault>
-    requires lay { lay.now ≡ positions_of sources.now.first.input.now (second_taken sources.now.second) }
+    requires lay { ArePositions sources.now.first.input.now (second_taken sources.now.second) lay.now }
     requires small { lay.now.total < 2 ^ 31 }
     requires first { HasSize (F.state files.old).kept sources.now.first.name.now sources.now.first.input.now.size }
     requires second { IfSome sources.now.second (λ s. HasSize (F.state files.old).kept s.name.now s.input.now.size) }
@@ -75,7 +75,7 @@ fn put_inputs<F: Files>(
     lay: &Layout,
     out: &str,
 ) -> Result<(), CopyFault>
-    requires lay { lay.now ≡ positions_of sources.now.first.input.now (second_taken sources.now.second) }
+    requires lay { ArePositions sources.now.first.input.now (second_taken sources.now.second) lay.now }
     requires small { lay.now.total < 2 ^ 31 }
     requires first { HasSize (F.state files.old).kept sources.now.first.name.now sources.now.first.input.now.size }
     requires second { IfSome sources.now.second (λ s. HasSize (F.state files.old).kept s.name.now s.input.now.size) }
@@ -115,7 +115,7 @@ fn put_both<F: Files>(
     lay: &Layout,
     out: &str,
 ) -> Result<(), CopyFault>
-    requires lay { lay.now ≡ positions_of first.now.input.now (Some second.now.input.now) }
+    requires lay { ArePositions first.now.input.now (Some second.now.input.now) lay.now }
     requires small { lay.now.total < 2 ^ 31 }
     requires first { HasSize (F.state files.old).kept first.now.name.now first.now.input.now.size }
     requires second { HasSize (F.state files.old).kept second.now.name.now second.now.input.now.size }

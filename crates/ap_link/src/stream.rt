@@ -1,6 +1,7 @@
 // The linker over files.
 ghost use Rattle.std.specs.Prelude.{◌≡◌, ◌≢◌, IfSome, Some, None, option_copied};
 ghost use Rattle.ap_claims.specs.Blocks.{free_block};
+ghost use Rattle.ap_check.specs.Options.{AreTaken};
 ghost use Rattle.ap_link.specs.FileAnswers.{LinksFiles};
 ghost use Rattle.ap_link.specs.Lent.{LendsToFiles};
 ghost use Rattle.ap_link.specs.Sources.{IsSource, second_name, second_taken};
@@ -36,9 +37,10 @@ pub fn link_stream<F: Files>(
 ) -> Result<u64, LinkEnd>
     requires first { first.now ≢ out.now }
     requires second { IfSome (option_copied second) (λ n. n ≢ out.now) }
+    requires options { AreTaken options.now }
     requires free { block.old ≡ free_block }
-    ensures block { LendsToFiles options.now.systems (F.state files.old).kept block.old block.new first.now (option_copied second.entry) result }
-    ensures files { LinksFiles options.now.systems (F.state files.old) (F.state files.new) first.now (option_copied second.entry) out.now result }
+    ensures block { LendsToFiles options.now (F.state files.old).kept block.old block.new first.now (option_copied second.entry) result }
+    ensures files { LinksFiles options.now (F.state files.old) (F.state files.new) first.now (option_copied second.entry) out.now result }
 {
     let input = match check_input_in(files, first, 1) {
         Ok(input) => input,
@@ -64,9 +66,10 @@ fn link_first<F: Files>(
 ) -> Result<u64, LinkEnd>
     requires first { IsSource (F.state files.old).kept 1 first.now }
     requires apart { first.now.name.now ≢ out.now }
+    requires options { AreTaken options.now }
     requires free { block.old ≡ free_block }
-    ensures block { LendsToFiles options.now.systems (F.state files.old).kept block.old block.new first.now.name.now None result }
-    ensures files { LinksFiles options.now.systems (F.state files.old) (F.state files.new) first.now.name.now None out.now result }
+    ensures block { LendsToFiles options.now (F.state files.old).kept block.old block.new first.now.name.now None result }
+    ensures files { LinksFiles options.now (F.state files.old) (F.state files.new) first.now.name.now None out.now result }
 {
     let sources = Sources {
         first: *first,
@@ -87,9 +90,10 @@ fn link_second<F: Files>(
     requires first { IsSource (F.state files.old).kept 1 first.now }
     requires apart { first.now.name.now ≢ out.now }
     requires others { name.now ≢ out.now }
+    requires options { AreTaken options.now }
     requires free { block.old ≡ free_block }
-    ensures block { LendsToFiles options.now.systems (F.state files.old).kept block.old block.new first.now.name.now (Some name.now) result }
-    ensures files { LinksFiles options.now.systems (F.state files.old) (F.state files.new) first.now.name.now (Some name.now) out.now result }
+    ensures block { LendsToFiles options.now (F.state files.old).kept block.old block.new first.now.name.now (Some name.now) result }
+    ensures files { LinksFiles options.now (F.state files.old) (F.state files.new) first.now.name.now (Some name.now) out.now result }
 {
     let input = match check_input_in(files, name, 2) {
         Ok(input) => input,
@@ -118,9 +122,10 @@ fn link_sources<F: Files>(
     requires second { IfSome sources.now.second (λ s. IsSource (F.state files.old).kept 2 s) }
     requires apart { sources.now.first.name.now ≢ out.now }
     requires others { IfSome sources.now.second (λ s. s.name.now ≢ out.now) }
+    requires options { AreTaken options.now }
     requires free { block.old ≡ free_block }
-    ensures block { LendsToFiles options.now.systems (F.state files.old).kept block.old block.new sources.now.first.name.now (second_name sources.now.second) result }
-    ensures files { LinksFiles options.now.systems (F.state files.old) (F.state files.new) sources.now.first.name.now (second_name sources.now.second) out.now result }
+    ensures block { LendsToFiles options.now (F.state files.old).kept block.old block.new sources.now.first.name.now (second_name sources.now.second) result }
+    ensures files { LinksFiles options.now (F.state files.old) (F.state files.new) sources.now.first.name.now (second_name sources.now.second) out.now result }
 {
     let job = match check_all(sources.first.input, second_input(sources), options) {
         Ok(job) => job,

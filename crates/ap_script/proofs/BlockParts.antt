@@ -6,7 +6,7 @@ use Rattle.ap_fields.specs.declared.sizes.TheConstants.{BLOCK, WINDOW}
 use Rattle.ap_fields.specs.Bytes.{zeros, Holds}
 use Rattle.ap_fields.proofs.Bytes.{length-zeros, holds-part}
 use Rattle.ap_loader.specs.Embedded.{has_magic}
-use Rattle.ap_check.specs.declared.options.Systems.{Systems}
+use Rattle.ap_check.specs.declared.options.Options.{Options}
 use Rattle.ap_elf.specs.declared.machine.Machine.TheVariants.{X64, A64}
 use Rattle.ap_check.specs.Inputs.{Taken}
 use Rattle.ap_layout.specs.Areas.{new_areas}
@@ -33,12 +33,12 @@ length-opening number =
     let e = length-append (delimiter number) (codes "'\n") in
     omega arith
 
-pub length-body : (inputs : List Taken) (l : Positions) → Fits inputs l → 86 + length (body_of inputs l) ≡ l.body_end
+pub length-body : (options : Options) (inputs : List Taken) (l : Positions) → Fits options inputs l → 86 + length (body_of options inputs l) ≡ l.body_end
 unfolding body_of
-length-body inputs l fits =
+length-body options inputs l fits =
     let a = length-append (zeros 10) (tables_text inputs l.areas) in
     let z = length-zeros 10 in
-    let t = length-tables (new_areas BLOCK (joined l.areas)) tables_start l.body_end inputs l.areas l.tables fits.areas fits.tables in
+    let t = length-tables (new_areas BLOCK (joined l.areas)) (tables_start options inputs) l.body_end inputs l.areas l.tables fits.areas fits.tables in
     omega arith
 
 pub length-closing : (number : ℕ) → length (closing number) ≡ 17
@@ -50,26 +50,26 @@ length-closing number =
     omega arith
 
 -- the place and the length of the Mach-O header in units of eight bytes
-pub small-units : (inputs : List Taken) (l : Positions) → Fits inputs l → l.mach_at / 8 + l.mach_len / 8 ≤ 2048
-small-units inputs l fits = let mach = fits.mach in omega arith
+pub small-units : (options : Options) (inputs : List Taken) (l : Positions) → Fits options inputs l → l.mach_at / 8 + l.mach_len / 8 ≤ 2048
+small-units options inputs l fits = let mach = fits.mach in omega arith
 
-pub length-script_for : (systems : Systems) (inputs : List Taken) (l : Positions) → Fits inputs l → length (script_for systems inputs l) ≤ 1224
-length-script_for systems inputs l fits =
-    length-script systems (header_for X64 inputs l.tables) (header_for A64 inputs l.tables) (l.mach_at / 8) (l.mach_len / 8) (header-is X64 inputs l.tables) (header-is A64 inputs l.tables)
-    (small-units inputs l fits)
+pub length-script_for : (options : Options) (inputs : List Taken) (l : Positions) → Fits options inputs l → length (script_for options inputs l) ≤ 1224
+length-script_for options inputs l fits =
+    length-script options.systems (header_for X64 inputs l.tables) (header_for A64 inputs l.tables) (l.mach_at / 8) (l.mach_len / 8) (header-is X64 inputs l.tables) (header-is A64 inputs l.tables)
+    (small-units options inputs l fits)
 
-pub length-text : (systems : Systems) (inputs : List Taken) (l : Positions) → Fits inputs l → length (shell_text systems inputs l) ≤ 4809
+pub length-text : (options : Options) (inputs : List Taken) (l : Positions) → Fits options inputs l → length (shell_text options inputs l) ≤ 4809
 unfolding shell_text
-length-text systems inputs l fits =
-    let k = delimiter_number (body_of inputs l) in
-    let s = script_for systems inputs l in
-    let a = length-append (opening k) (body_of inputs l ++ (closing k ++ s)) in
-    let b = length-append (body_of inputs l) (closing k ++ s) in
+length-text options inputs l fits =
+    let k = delimiter_number (body_of options inputs l) in
+    let s = script_for options inputs l in
+    let a = length-append (opening k) (body_of options inputs l ++ (closing k ++ s)) in
+    let b = length-append (body_of options inputs l) (closing k ++ s) in
     let c = length-append (closing k) s in
     let o = length-opening k in
-    let m = length-body inputs l fits in
+    let m = length-body options inputs l fits in
     let e = length-closing k in
-    let t = length-script_for systems inputs l fits in
+    let t = length-script_for options inputs l fits in
     let body = fits.body in
     omega arith
 
@@ -78,35 +78,35 @@ unfolding spaces
 length-spaces n = length-replicate n 32
 
 -- what stands in the window
-abbrev pub window_text : Systems → List Taken → Positions → List ℕ
-window_text systems inputs l = shell_text systems inputs l ++ spaces (WINDOW - length (shell_text systems inputs l))
+abbrev pub window_text : Options → List Taken → Positions → List ℕ
+window_text options inputs l = shell_text options inputs l ++ spaces (WINDOW - length (shell_text options inputs l))
 
-pub length-window : (systems : Systems) (inputs : List Taken) (l : Positions) → Fits inputs l → length (window_text systems inputs l) ≡ WINDOW
-length-window systems inputs l fits =
-    let n : ℕ = length (shell_text systems inputs l) in
-    let a = length-append (shell_text systems inputs l) (spaces (WINDOW - n)) in
+pub length-window : (options : Options) (inputs : List Taken) (l : Positions) → Fits options inputs l → length (window_text options inputs l) ≡ WINDOW
+length-window options inputs l fits =
+    let n : ℕ = length (shell_text options inputs l) in
+    let a = length-append (shell_text options inputs l) (spaces (WINDOW - n)) in
     let s = length-spaces (WINDOW - n) in
-    let t = length-text systems inputs l fits in
+    let t = length-text options inputs l fits in
     omega arith
 
-pub block-parts : (systems : Systems) (inputs : List Taken) (l : Positions) (rest : List ℕ) → block_of systems inputs l ++ rest ≡ window_text systems inputs l ++ (zeros (BLOCK - WINDOW) ++ rest)
+pub block-parts : (options : Options) (inputs : List Taken) (l : Positions) (rest : List ℕ) → block_of options inputs l ++ rest ≡ window_text options inputs l ++ (zeros (BLOCK - WINDOW) ++ rest)
 unfolding block_of
-block-parts systems inputs l rest =
-    let text = shell_text systems inputs l in
+block-parts options inputs l rest =
+    let text = shell_text options inputs l in
     let fill = spaces (WINDOW - length text) in
     ap (λ r. r ++ rest) (sym (append_assoc text fill (zeros (BLOCK - WINDOW))))
     ∙ append_assoc (text ++ fill) (zeros (BLOCK - WINDOW)) rest
 
-pub length-block : (systems : Systems) (inputs : List Taken) (l : Positions) → Fits inputs l → length (block_of systems inputs l) ≡ BLOCK
+pub length-block : (options : Options) (inputs : List Taken) (l : Positions) → Fits options inputs l → length (block_of options inputs l) ≡ BLOCK
 unfolding block_of
-length-block systems inputs l fits =
-    let text = shell_text systems inputs l in
+length-block options inputs l fits =
+    let text = shell_text options inputs l in
     let n : ℕ = length text in
     let a = length-append text (spaces (WINDOW - n) ++ zeros (BLOCK - WINDOW)) in
     let b = length-append (spaces (WINDOW - n)) (zeros (BLOCK - WINDOW)) in
     let s = length-spaces (WINDOW - n) in
     let z = length-zeros (BLOCK - WINDOW) in
-    let x = length-text systems inputs l fits in
+    let x = length-text options inputs l fits in
     omega arith
 
 -- ---- the opening and the delimiter's line
@@ -132,23 +132,23 @@ pub starts-closing : (number : ℕ) (behind : List ℕ) → get_or (closing numb
 unfolding closing
 starts-closing number behind = refl
 
-pub starts-body : (inputs : List Taken) (l : Positions) (behind : List ℕ) → get_or (body_of inputs l ++ behind) 0 0 ≡ 0
+pub starts-body : (options : Options) (inputs : List Taken) (l : Positions) (behind : List ℕ) → get_or (body_of options inputs l ++ behind) 0 0 ≡ 0
 unfolding body_of zeros
-starts-body inputs l behind = refl
+starts-body options inputs l behind = refl
 
 -- ---- the parts of a file that begins with the block
 
 -- what stands behind the body
-abbrev pub behind_body : Systems → List Taken → Positions → List ℕ
-behind_body systems inputs l =
-    closing (delimiter_number (body_of inputs l)) ++ (script_for systems inputs l ++ spaces (WINDOW - length (shell_text systems inputs l)))
+abbrev pub behind_body : Options → List Taken → Positions → List ℕ
+behind_body options inputs l =
+    closing (delimiter_number (body_of options inputs l)) ++ (script_for options inputs l ++ spaces (WINDOW - length (shell_text options inputs l)))
 
-pub window-parts : (systems : Systems) (inputs : List Taken) (l : Positions) → window_text systems inputs l ≡ opening (delimiter_number (body_of inputs l)) ++ (body_of inputs l ++ behind_body systems inputs l)
+pub window-parts : (options : Options) (inputs : List Taken) (l : Positions) → window_text options inputs l ≡ opening (delimiter_number (body_of options inputs l)) ++ (body_of options inputs l ++ behind_body options inputs l)
 unfolding shell_text
-window-parts systems inputs l =
-    let k = delimiter_number (body_of inputs l) in
-    let body = body_of inputs l in
-    let s = script_for systems inputs l in
+window-parts options inputs l =
+    let k = delimiter_number (body_of options inputs l) in
+    let body = body_of options inputs l in
+    let s = script_for options inputs l in
     let fill = spaces (WINDOW - length (opening k ++ (body ++ (closing k ++ s)))) in
     append_assoc (opening k) (body ++ (closing k ++ s)) fill
     ∙ ap (λ r. opening k ++ r) (append_assoc body (closing k ++ s) fill ∙ ap (λ r. body ++ r) (append_assoc (closing k) s fill))
@@ -162,49 +162,49 @@ opening-parts : (number : ℕ) (rest : List ℕ) → Holds (opening number ++ re
 unfolding opening
 opening-parts number rest = holds-part [] (codes "jartsr='") (codes "\n" ++ ((zeros 55 ++ (codes "' <<'" ++ (delimiter number ++ codes "'\n"))) ++ rest)) 0 refl
 
-pub front-parts : (systems : Systems) (inputs : List Taken) (l : Positions) (rest : List ℕ)
-    → block_of systems inputs l ++ rest ≡ opening (delimiter_number (body_of inputs l)) ++ ((body_of inputs l ++ behind_body systems inputs l) ++ (zeros (BLOCK - WINDOW) ++ rest))
-front-parts systems inputs l rest =
-    block-parts systems inputs l rest
-    ∙ ap (λ r. r ++ (zeros (BLOCK - WINDOW) ++ rest)) (window-parts systems inputs l)
-    ∙ append_assoc (opening (delimiter_number (body_of inputs l))) (body_of inputs l ++ behind_body systems inputs l) (zeros (BLOCK - WINDOW) ++ rest)
+pub front-parts : (options : Options) (inputs : List Taken) (l : Positions) (rest : List ℕ)
+    → block_of options inputs l ++ rest ≡ opening (delimiter_number (body_of options inputs l)) ++ ((body_of options inputs l ++ behind_body options inputs l) ++ (zeros (BLOCK - WINDOW) ++ rest))
+front-parts options inputs l rest =
+    block-parts options inputs l rest
+    ∙ ap (λ r. r ++ (zeros (BLOCK - WINDOW) ++ rest)) (window-parts options inputs l)
+    ∙ append_assoc (opening (delimiter_number (body_of options inputs l))) (body_of options inputs l ++ behind_body options inputs l) (zeros (BLOCK - WINDOW) ++ rest)
 
-pub block-magic : (systems : Systems) (inputs : List Taken) (l : Positions) (rest : List ℕ) → has_magic (block_of systems inputs l ++ rest) ≡ true
-block-magic systems inputs l rest =
-    ap has_magic (front-parts systems inputs l rest)
-    ∙ opening-magic (delimiter_number (body_of inputs l)) ((body_of inputs l ++ behind_body systems inputs l) ++ (zeros (BLOCK - WINDOW) ++ rest))
+pub block-magic : (options : Options) (inputs : List Taken) (l : Positions) (rest : List ℕ) → has_magic (block_of options inputs l ++ rest) ≡ true
+block-magic options inputs l rest =
+    ap has_magic (front-parts options inputs l rest)
+    ∙ opening-magic (delimiter_number (body_of options inputs l)) ((body_of options inputs l ++ behind_body options inputs l) ++ (zeros (BLOCK - WINDOW) ++ rest))
 
-pub block-begins : (systems : Systems) (inputs : List Taken) (l : Positions) (rest : List ℕ) → Holds (block_of systems inputs l ++ rest) 0 (codes "jartsr='")
-block-begins systems inputs l rest =
-    subst (λ w. Holds w 0 (codes "jartsr='")) (sym (front-parts systems inputs l rest))
-    (opening-parts (delimiter_number (body_of inputs l)) ((body_of inputs l ++ behind_body systems inputs l) ++ (zeros (BLOCK - WINDOW) ++ rest)))
+pub block-begins : (options : Options) (inputs : List Taken) (l : Positions) (rest : List ℕ) → Holds (block_of options inputs l ++ rest) 0 (codes "jartsr='")
+block-begins options inputs l rest =
+    subst (λ w. Holds w 0 (codes "jartsr='")) (sym (front-parts options inputs l rest))
+    (opening-parts (delimiter_number (body_of options inputs l)) ((body_of options inputs l ++ behind_body options inputs l) ++ (zeros (BLOCK - WINDOW) ++ rest)))
 
 -- the body
-pub block-body : (systems : Systems) (inputs : List Taken) (l : Positions) (rest : List ℕ) → Holds (block_of systems inputs l ++ rest) 86 (body_of inputs l)
-block-body systems inputs l rest =
-    let k = delimiter_number (body_of inputs l) in
-    let behind = behind_body systems inputs l in
+pub block-body : (options : Options) (inputs : List Taken) (l : Positions) (rest : List ℕ) → Holds (block_of options inputs l ++ rest) 86 (body_of options inputs l)
+block-body options inputs l rest =
+    let k = delimiter_number (body_of options inputs l) in
+    let behind = behind_body options inputs l in
     let end = zeros (BLOCK - WINDOW) ++ rest in
-    let parts : block_of systems inputs l ++ rest ≡ opening k ++ (body_of inputs l ++ (behind ++ end)) =
-    front-parts systems inputs l rest ∙ ap (λ r. opening k ++ r) (append_assoc (body_of inputs l) behind end) in
-    subst (λ w. Holds w 86 (body_of inputs l)) (sym parts) (holds-part (opening k) (body_of inputs l) (behind ++ end) 86 (sym (length-opening k)))
+    let parts : block_of options inputs l ++ rest ≡ opening k ++ (body_of options inputs l ++ (behind ++ end)) =
+    front-parts options inputs l rest ∙ ap (λ r. opening k ++ r) (append_assoc (body_of options inputs l) behind end) in
+    subst (λ w. Holds w 86 (body_of options inputs l)) (sym parts) (holds-part (opening k) (body_of options inputs l) (behind ++ end) 86 (sym (length-opening k)))
 
 -- the tables
-tables-in : (inputs : List Taken) (l : Positions) (number : ℕ) (behind : List ℕ) → opening number ++ (body_of inputs l ++ behind) ≡ (opening number ++ zeros 10) ++ (tables_text inputs l.areas ++ behind)
+tables-in : (options : Options) (inputs : List Taken) (l : Positions) (number : ℕ) (behind : List ℕ) → opening number ++ (body_of options inputs l ++ behind) ≡ (opening number ++ zeros 10) ++ (tables_text inputs l.areas ++ behind)
 unfolding body_of
-tables-in inputs l number behind =
+tables-in options inputs l number behind =
     ap (λ r. opening number ++ r) (append_assoc (zeros 10) (tables_text inputs l.areas) behind)
     ∙ sym (append_assoc (opening number) (zeros 10) (tables_text inputs l.areas ++ behind))
 
-pub block-tables : (systems : Systems) (inputs : List Taken) (l : Positions) (rest : List ℕ) → Fits inputs l → HoldsTables (block_of systems inputs l ++ rest) inputs l.areas l.tables
-block-tables systems inputs l rest fits =
-    let k = delimiter_number (body_of inputs l) in
-    let behind = behind_body systems inputs l in
+pub block-tables : (options : Options) (inputs : List Taken) (l : Positions) (rest : List ℕ) → Fits options inputs l → HoldsTables (block_of options inputs l ++ rest) inputs l.areas l.tables
+block-tables options inputs l rest fits =
+    let k = delimiter_number (body_of options inputs l) in
+    let behind = behind_body options inputs l in
     let end = zeros (BLOCK - WINDOW) ++ rest in
-    let parts : block_of systems inputs l ++ rest ≡ (opening k ++ zeros 10) ++ (tables_text inputs l.areas ++ (behind ++ end)) =
-    front-parts systems inputs l rest ∙ ap (λ r. opening k ++ r) (append_assoc (body_of inputs l) behind end) ∙ tables-in inputs l k (behind ++ end) in
+    let parts : block_of options inputs l ++ rest ≡ (opening k ++ zeros 10) ++ (tables_text inputs l.areas ++ (behind ++ end)) =
+    front-parts options inputs l rest ∙ ap (λ r. opening k ++ r) (append_assoc (body_of options inputs l) behind end) ∙ tables-in options inputs l k (behind ++ end) in
     let a = length-append (opening k) (zeros 10) in
     let o = length-opening k in
     let z = length-zeros 10 in
     subst (λ w. HoldsTables w inputs l.areas l.tables) (sym parts)
-    (holds-tables (new_areas BLOCK (joined l.areas)) tables_start l.body_end inputs l.areas l.tables (opening k ++ zeros 10) (behind ++ end) fits.areas fits.tables (omega arith))
+    (holds-tables (new_areas BLOCK (joined l.areas)) (tables_start options inputs) l.body_end inputs l.areas l.tables (opening k ++ zeros 10) (behind ++ end) fits.areas fits.tables (omega arith))

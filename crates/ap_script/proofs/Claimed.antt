@@ -8,7 +8,7 @@ use Rattle.ap_claims.specs.Files.{IsFile}
 use Rattle.ap_claims.proofs.Growing.{IsFrom, no-text, front-claim, front-zeros, no-file, joined-file, added-file, turned-file, among-either, among-front, among-behind}
 use Rattle.ap_elf.specs.declared.machine.Machine.{Machine}
 use Rattle.ap_elf.specs.declared.machine.Machine.TheVariants.{X64, A64}
-use Rattle.ap_check.specs.declared.options.Systems.{Systems}
+use Rattle.ap_check.specs.declared.options.Options.{Options}
 use Rattle.ap_check.specs.Inputs.{Taken}
 use Rattle.ap_layout.specs.declared.layout.Area.{Area}
 use Rattle.ap_layout.specs.Areas.{new_areas}
@@ -43,52 +43,52 @@ from-tables news at end (e ∷ inputs) (areas ∷ more) (t ∷ tables) claims te
     (subst (λ n. IsFrom n (table_claims inputs more tables ++ claims) (tables_text inputs more ++ text)) next later)))
 
 -- the claims of the shell and of the tables, in the order of their places
-abbrev placed_claims : Systems → List Taken → Positions → List Claim
-placed_claims systems inputs l =
+abbrev placed_claims : Options → List Taken → Positions → List Claim
+placed_claims options inputs l =
     claim Shell 0 magic_line
-    ∷ claim Shell 64 (opening_line (delimiter_number (body_of inputs l)))
-    ∷ (table_claims inputs l.areas l.tables ++ (claim Shell l.body_end (ending_of systems inputs l) ∷ []))
+    ∷ claim Shell 64 (opening_line (delimiter_number (body_of options inputs l)))
+    ∷ (table_claims inputs l.areas l.tables ++ (claim Shell l.body_end (ending_of options inputs l) ∷ []))
 
 -- the second half
 no-claims : IsFrom WINDOW [] (zeros (BLOCK - WINDOW) ++ [])
 no-claims = front-zeros WINDOW (BLOCK - WINDOW) BLOCK [] [] refl (no-text BLOCK)
 
-block-texts : (systems : Systems) (inputs : List Taken) (l : Positions)
-    → block_of systems inputs l ++ [] ≡ magic_line ++ (zeros 55 ++ (opening_line (delimiter_number (body_of inputs l)) ++ (zeros 10 ++ (tables_text inputs l.areas ++ (ending_of systems inputs l ++ (zeros (BLOCK - WINDOW) ++ []))))))
+block-texts : (options : Options) (inputs : List Taken) (l : Positions)
+    → block_of options inputs l ++ [] ≡ magic_line ++ (zeros 55 ++ (opening_line (delimiter_number (body_of options inputs l)) ++ (zeros 10 ++ (tables_text inputs l.areas ++ (ending_of options inputs l ++ (zeros (BLOCK - WINDOW) ++ []))))))
 unfolding opening body_of
-block-texts systems inputs l =
-    let line = opening_line (delimiter_number (body_of inputs l)) in
+block-texts options inputs l =
+    let line = opening_line (delimiter_number (body_of options inputs l)) in
     let tables = tables_text inputs l.areas in
-    let ending = ending_of systems inputs l in
+    let ending = ending_of options inputs l in
     let rest = zeros (BLOCK - WINDOW) ++ [] in
-    front-parts systems inputs l []
+    front-parts options inputs l []
     ∙ ap (λ r. (magic_line ++ (zeros 55 ++ line)) ++ r) (append_assoc (zeros 10 ++ tables) ending rest ∙ append_assoc (zeros 10) tables (ending ++ rest))
     ∙ append_assoc magic_line (zeros 55 ++ line) (zeros 10 ++ (tables ++ (ending ++ rest)))
     ∙ ap (λ r. magic_line ++ r) (append_assoc (zeros 55) line (zeros 10 ++ (tables ++ (ending ++ rest))))
 
-from-block : (systems : Systems) (inputs : List Taken) (l : Positions) → Fits inputs l → IsFrom 0 (placed_claims systems inputs l) (block_of systems inputs l ++ [])
-from-block systems inputs l fits =
-    let line = opening_line (delimiter_number (body_of inputs l)) in
-    let last = claim Shell l.body_end (ending_of systems inputs l) in
-    let long = ending-long systems inputs l fits in
-    let ending : IsFrom l.body_end (last ∷ []) (ending_of systems inputs l ++ (zeros (BLOCK - WINDOW) ++ [])) =
+from-block : (options : Options) (inputs : List Taken) (l : Positions) → Fits options inputs l → IsFrom 0 (placed_claims options inputs l) (block_of options inputs l ++ [])
+from-block options inputs l fits =
+    let line = opening_line (delimiter_number (body_of options inputs l)) in
+    let last = claim Shell l.body_end (ending_of options inputs l) in
+    let long = ending-long options inputs l fits in
+    let ending : IsFrom l.body_end (last ∷ []) (ending_of options inputs l ++ (zeros (BLOCK - WINDOW) ++ [])) =
     front-claim last [] (zeros (BLOCK - WINDOW) ++ []) (subst (λ n. IsFrom n [] (zeros (BLOCK - WINDOW) ++ [])) (sym long) no-claims) in
-    let tables = from-tables (new_areas BLOCK (joined l.areas)) tables_start l.body_end inputs l.areas l.tables (last ∷ []) (ending_of systems inputs l ++ (zeros (BLOCK - WINDOW) ++ [])) fits.areas fits.tables ending in
+    let tables = from-tables (new_areas BLOCK (joined l.areas)) (tables_start options inputs) l.body_end inputs l.areas l.tables (last ∷ []) (ending_of options inputs l ++ (zeros (BLOCK - WINDOW) ++ [])) fits.areas fits.tables ending in
     let later = table_claims inputs l.areas l.tables ++ (last ∷ []) in
-    let texts = tables_text inputs l.areas ++ (ending_of systems inputs l ++ (zeros (BLOCK - WINDOW) ++ [])) in
-    subst (IsFrom 0 (placed_claims systems inputs l)) (sym (block-texts systems inputs l))
+    let texts = tables_text inputs l.areas ++ (ending_of options inputs l ++ (zeros (BLOCK - WINDOW) ++ [])) in
+    subst (IsFrom 0 (placed_claims options inputs l)) (sym (block-texts options inputs l))
     (front-claim (claim Shell 0 magic_line) (claim Shell 64 line ∷ later) (zeros 55 ++ (line ++ (zeros 10 ++ texts)))
     (front-zeros 9 55 64 (claim Shell 64 line ∷ later) (line ++ (zeros 10 ++ texts)) refl
     (front-claim (claim Shell 64 line) later (zeros 10 ++ texts)
-    (front-zeros 86 10 tables_start later texts refl tables))))
+    (front-zeros 86 10 (tables_start options inputs) later texts refl tables))))
 
 -- what an APE loader looks for stands in it too
-held-statement : (systems : Systems) (inputs : List Taken) (l : Positions) (m : Machine) (header : Option (List ℕ)) (claims : List Claim) → Fits inputs l → header_for m inputs l.tables ≡ header
-    → IsFile BLOCK claims (block_of systems inputs l ++ []) → IsFile BLOCK (statement_claims header (statement_place systems inputs l m) ++ claims) (block_of systems inputs l ++ [])
-held-statement systems inputs l m None claims fits is h = h
-held-statement systems inputs l m (Some header) claims fits is h =
-    added-file BLOCK (claim Ape (statement_place systems inputs l m) _) claims (block_of systems inputs l ++ [])
-    (parts-holds (block_of systems inputs l ++ []) (statement_place systems inputs l m) header (parts-block systems inputs l [] m header fits is)) h
+held-statement : (options : Options) (inputs : List Taken) (l : Positions) (m : Machine) (header : Option (List ℕ)) (claims : List Claim) → Fits options inputs l → header_for m inputs l.tables ≡ header
+    → IsFile BLOCK claims (block_of options inputs l ++ []) → IsFile BLOCK (statement_claims header (statement_place options inputs l m) ++ claims) (block_of options inputs l ++ [])
+held-statement options inputs l m None claims fits is h = h
+held-statement options inputs l m (Some header) claims fits is h =
+    added-file BLOCK (claim Ape (statement_place options inputs l m) _) claims (block_of options inputs l ++ [])
+    (parts-holds (block_of options inputs l ++ []) (statement_place options inputs l m) header (parts-block options inputs l [] m header fits is)) h
 
 -- the claims of the block are those, in the order in which they are made
 there : (c : Claim) (x y tables : List Claim) (a b d e : Claim) → Among c (a ∷ (x ++ (y ++ (b ∷ d ∷ (tables ++ (e ∷ [])))))) → Among c (tables ++ ((a ∷ (x ++ y)) ++ (b ∷ d ∷ e ∷ [])))
@@ -134,23 +134,23 @@ back c x y tables a b d e among = elim (among-either c tables _ among) [
 ]
 
 pub block-claimed : BlockIsClaimed
-block-claimed systems inputs l fits =
-    let block = block_of systems inputs l ++ [] in
+block-claimed options inputs l fits =
+    let block = block_of options inputs l ++ [] in
     let x64 = header_for X64 inputs l.tables in
     let a64 = header_for A64 inputs l.tables in
-    let x = statement_claims x64 (statement_place systems inputs l X64) in
-    let y = statement_claims a64 (statement_place systems inputs l A64) in
+    let x = statement_claims x64 (statement_place options inputs l X64) in
+    let y = statement_claims a64 (statement_place options inputs l A64) in
     let tables = table_claims inputs l.areas l.tables in
-    let number = delimiter_number (body_of inputs l) in
+    let number = delimiter_number (body_of options inputs l) in
     let a = claim Ape 0 magic in
     let b = claim Shell 0 magic_line in
     let d = claim Shell 64 (opening_line number) in
-    let e = claim Shell l.body_end (ending_of systems inputs l) in
-    let long = length-block systems inputs l fits in
-    let whole = length-append (block_of systems inputs l) [] in
-    let placed : IsFile BLOCK (placed_claims systems inputs l) block = joined-file 0 BLOCK [] (placed_claims systems inputs l) [] block no-file (from-block systems inputs l fits) (omega arith) in
-    let second = held-statement systems inputs l A64 a64 (placed_claims systems inputs l) fits refl placed in
-    let first = held-statement systems inputs l X64 x64 (y ++ placed_claims systems inputs l) fits refl second in
-    let all = added-file BLOCK a (x ++ (y ++ placed_claims systems inputs l)) block (block-begins systems inputs l []) first in
-    subst (IsFile BLOCK (block_claims systems inputs l)) (append-nil (block_of systems inputs l))
-    (turned-file BLOCK (a ∷ (x ++ (y ++ placed_claims systems inputs l))) (block_claims systems inputs l) block (λ c. there c x y tables a b d e) (λ c. back c x y tables a b d e) all)
+    let e = claim Shell l.body_end (ending_of options inputs l) in
+    let long = length-block options inputs l fits in
+    let whole = length-append (block_of options inputs l) [] in
+    let placed : IsFile BLOCK (placed_claims options inputs l) block = joined-file 0 BLOCK [] (placed_claims options inputs l) [] block no-file (from-block options inputs l fits) (omega arith) in
+    let second = held-statement options inputs l A64 a64 (placed_claims options inputs l) fits refl placed in
+    let first = held-statement options inputs l X64 x64 (y ++ placed_claims options inputs l) fits refl second in
+    let all = added-file BLOCK a (x ++ (y ++ placed_claims options inputs l)) block (block-begins options inputs l []) first in
+    subst (IsFile BLOCK (block_claims options inputs l)) (append-nil (block_of options inputs l))
+    (turned-file BLOCK (a ∷ (x ++ (y ++ placed_claims options inputs l))) (block_claims options inputs l) block (λ c. there c x y tables a b d e) (λ c. back c x y tables a b d e) all)

@@ -6,6 +6,7 @@ use Rattle.ap_fields.specs.declared.sizes.TheConstants.{WINDOW}
 use Rattle.ap_elf.specs.declared.machine.Machine.{Machine}
 use Rattle.ap_elf.specs.declared.machine.Machine.TheVariants.{X64, A64}
 use Rattle.ap_check.specs.declared.options.Systems.{Systems}
+use Rattle.ap_check.specs.declared.options.Options.{Options}
 use Rattle.ap_check.specs.Inputs.{Taken}
 use Rattle.ap_layout.specs.Positions.{Positions, Fits}
 use Rattle.ap_script.specs.Delimiter.{delimiter, delimiter_number}
@@ -25,84 +26,84 @@ unfolding closing
 closing-next old a b c word number first is second third = three-pieces old a b c (codes "\n") (delimiter number) (codes "\n") first (second ∙ ap (λ w. a ++ w) is) third
 
 -- there is room for a statement of 265 bytes behind where a machine's begins
-pub place-room : (systems : Systems) (inputs : List Taken) (l : Positions) (m : Machine) → Fits inputs l → statement_place systems inputs l m + 265 ≤ WINDOW
-place-room systems inputs l X64 fits =
+pub place-room : (options : Options) (inputs : List Taken) (l : Positions) (m : Machine) → Fits options inputs l → statement_place options inputs l m + 265 ≤ WINDOW
+place-room options inputs l X64 fits =
     let body = fits.body in
     let a = length-script_start in
-    let b = length-system_lines systems (header_for X64 inputs l.tables) (l.mach_at / 8) (l.mach_len / 8) (small-units inputs l fits) in
+    let b = length-system_lines options.systems (header_for X64 inputs l.tables) (l.mach_at / 8) (l.mach_len / 8) (small-units options inputs l fits) in
     let c = length-machine_start X64 in
     omega arith
-place-room systems inputs l A64 fits =
+place-room options inputs l A64 fits =
     let body = fits.body in
     let a = length-script_start in
-    let b = length-system_lines systems (header_for X64 inputs l.tables) (l.mach_at / 8) (l.mach_len / 8) (small-units inputs l fits) in
+    let b = length-system_lines options.systems (header_for X64 inputs l.tables) (l.mach_at / 8) (l.mach_len / 8) (small-units options inputs l fits) in
     let c = length-machine_lines X64 (header_for X64 inputs l.tables) (header-is X64 inputs l.tables) in
     let d = length-machine_start A64 in
     omega arith
 
 -- the shell's text without spaces
-length-shell_text : (systems : Systems) (inputs : List Taken) (l : Positions) → Fits inputs l → length (shell_text systems inputs l) ≡ l.body_end + (17 + length (script_for systems inputs l))
+length-shell_text : (options : Options) (inputs : List Taken) (l : Positions) → Fits options inputs l → length (shell_text options inputs l) ≡ l.body_end + (17 + length (script_for options inputs l))
 unfolding shell_text
-length-shell_text systems inputs l fits =
-    let number = delimiter_number (body_of inputs l) in
-    let script = script_for systems inputs l in
-    let a = length-append (Rattle.ap_script.specs.Blocks.opening number) (body_of inputs l ++ (closing number ++ script)) in
-    let b = length-append (body_of inputs l) (closing number ++ script) in
+length-shell_text options inputs l fits =
+    let number = delimiter_number (body_of options inputs l) in
+    let script = script_for options inputs l in
+    let a = length-append (Rattle.ap_script.specs.Blocks.opening number) (body_of options inputs l ++ (closing number ++ script)) in
+    let b = length-append (body_of options inputs l) (closing number ++ script) in
     let c = length-append (closing number) script in
     let o = length-opening number in
-    let d = length-body inputs l fits in
+    let d = length-body options inputs l fits in
     let e = length-closing number in
     omega arith
 
-pub ending-long : (systems : Systems) (inputs : List Taken) (l : Positions) → Fits inputs l → l.body_end + length (ending_of systems inputs l) ≡ WINDOW
-ending-long systems inputs l fits =
-    let number = delimiter_number (body_of inputs l) in
-    let script = script_for systems inputs l in
-    let fill = spaces (WINDOW - length (shell_text systems inputs l)) in
+pub ending-long : (options : Options) (inputs : List Taken) (l : Positions) → Fits options inputs l → l.body_end + length (ending_of options inputs l) ≡ WINDOW
+ending-long options inputs l fits =
+    let number = delimiter_number (body_of options inputs l) in
+    let script = script_for options inputs l in
+    let fill = spaces (WINDOW - length (shell_text options inputs l)) in
     let a = length-append (closing number) (script ++ fill) in
     let b = length-append script fill in
     let c = length-closing number in
-    let d = length-spaces (WINDOW - length (shell_text systems inputs l)) in
-    let e = length-shell_text systems inputs l fits in
-    let f = length-script_for systems inputs l fits in
+    let d = length-spaces (WINDOW - length (shell_text options inputs l)) in
+    let e = length-shell_text options inputs l fits in
+    let f = length-script_for options inputs l fits in
     let body = fits.body in
     omega arith
 
 -- the delimiter's line and the script
-pub script-behind : (systems : Systems) (inputs : List Taken) (l : Positions) (number skip count : ℕ) (x y : Option (List ℕ)) (none a b : List ℕ)
-    → number ≡ delimiter_number (body_of inputs l) → x ≡ header_for X64 inputs l.tables → y ≡ header_for A64 inputs l.tables
-    → skip ≡ l.mach_at / 8 → count ≡ l.mach_len / 8 → none ≡ [] → a ≡ none ++ closing number → b ≡ a ++ script_of systems x y skip count → b ≡ closing (delimiter_number (body_of inputs l)) ++ script_for systems inputs l
-script-behind systems inputs l number skip count x y none a b n_is x_is y_is s_is c_is empty first second =
+pub script-behind : (options : Options) (inputs : List Taken) (l : Positions) (number skip count : ℕ) (x y : Option (List ℕ)) (none a b : List ℕ)
+    → number ≡ delimiter_number (body_of options inputs l) → x ≡ header_for X64 inputs l.tables → y ≡ header_for A64 inputs l.tables
+    → skip ≡ l.mach_at / 8 → count ≡ l.mach_len / 8 → none ≡ [] → a ≡ none ++ closing number → b ≡ a ++ script_of options.systems x y skip count → b ≡ closing (delimiter_number (body_of options inputs l)) ++ script_for options inputs l
+script-behind options inputs l number skip count x y none a b n_is x_is y_is s_is c_is empty first second =
     second
-    ∙ ap (λ t. t ++ script_of systems x y skip count) (first ∙ ap (λ t. t ++ closing number) empty ∙ ap closing n_is)
+    ∙ ap (λ t. t ++ script_of options.systems x y skip count) (first ∙ ap (λ t. t ++ closing number) empty ∙ ap closing n_is)
     ∙ rw (x_is, y_is, s_is, c_is) refl
 
-pub ending-short : (systems : Systems) (inputs : List Taken) (l : Positions) (body_end : ℕ) (text : List ℕ) → Fits inputs l → l.body_end ≡ body_end
-    → text ≡ closing (delimiter_number (body_of inputs l)) ++ script_for systems inputs l → length text ≤ WINDOW - body_end
-ending-short systems inputs l body_end text fits at is =
-    let number = delimiter_number (body_of inputs l) in
-    let a = length-append (closing number) (script_for systems inputs l) in
+pub ending-short : (options : Options) (inputs : List Taken) (l : Positions) (body_end : ℕ) (text : List ℕ) → Fits options inputs l → l.body_end ≡ body_end
+    → text ≡ closing (delimiter_number (body_of options inputs l)) ++ script_for options inputs l → length text ≤ WINDOW - body_end
+ending-short options inputs l body_end text fits at is =
+    let number = delimiter_number (body_of options inputs l) in
+    let a = length-append (closing number) (script_for options inputs l) in
     let b = length-closing number in
-    let c = length-script_for systems inputs l fits in
+    let c = length-script_for options inputs l fits in
     let body = fits.body in
     let long = ap length is in
     omega arith
 
 -- with spaces behind them
-pub ending-made : (systems : Systems) (inputs : List Taken) (l : Positions) (body_end : ℕ) (text made : List ℕ) → Fits inputs l → l.body_end ≡ body_end
-    → text ≡ closing (delimiter_number (body_of inputs l)) ++ script_for systems inputs l → made ≡ text ++ spaces (WINDOW - body_end - length text) → made ≡ ending_of systems inputs l
-ending-made systems inputs l body_end text made fits at is filled =
-    let number = delimiter_number (body_of inputs l) in
-    let script = script_for systems inputs l in
+pub ending-made : (options : Options) (inputs : List Taken) (l : Positions) (body_end : ℕ) (text made : List ℕ) → Fits options inputs l → l.body_end ≡ body_end
+    → text ≡ closing (delimiter_number (body_of options inputs l)) ++ script_for options inputs l → made ≡ text ++ spaces (WINDOW - body_end - length text) → made ≡ ending_of options inputs l
+ending-made options inputs l body_end text made fits at is filled =
+    let number = delimiter_number (body_of options inputs l) in
+    let script = script_for options inputs l in
     let a = length-append (closing number) script in
     let b = length-closing number in
-    let c = length-shell_text systems inputs l fits in
+    let c = length-shell_text options inputs l fits in
     let long = ap length is in
-    let count : WINDOW - body_end - length text ≡ WINDOW - length (shell_text systems inputs l) = omega arith in
+    let count : WINDOW - body_end - length text ≡ WINDOW - length (shell_text options inputs l) = omega arith in
     filled
     ∙ ap (λ n. text ++ spaces n) count
-    ∙ ap (λ t. t ++ spaces (WINDOW - length (shell_text systems inputs l))) is
-    ∙ append_assoc (closing number) script (spaces (WINDOW - length (shell_text systems inputs l)))
+    ∙ ap (λ t. t ++ spaces (WINDOW - length (shell_text options inputs l))) is
+    ∙ append_assoc (closing number) script (spaces (WINDOW - length (shell_text options inputs l)))
 
 pub spaces-next : (old new : List ℕ) (len w : ℕ) → len ≤ w → new ≡ old ++ take (len - length old) (replicate w 32) → new ≡ old ++ spaces (len - length old)
 unfolding spaces

@@ -8,6 +8,7 @@ use Rattle.ap_elf.specs.declared.machine.Machine.{Machine}
 use Rattle.ap_elf.specs.declared.machine.Machine.TheVariants.{X64, A64}
 use Rattle.ap_check.specs.declared.load.Load.{Load}
 use Rattle.ap_elf.specs.Machines.{granule_of}
+use Rattle.ap_check.specs.declared.options.Options.{Options}
 use Rattle.ap_check.specs.Inputs.{Taken, Meets, AreLoads}
 use Rattle.ap_layout.specs.declared.layout.Area.{Area}
 use Rattle.ap_layout.specs.Areas.{end_from, after, new_areas, ServeAll}
@@ -75,8 +76,8 @@ back-all : (n : ℕ) (xs ys : List Area) → All (λ x. x.file < n) (xs ++ ys) �
 back-all n [] ys h = h
 back-all n (x ∷ xs) ys h = back-all n xs ys (rest-all (λ x. x.file < n) x (xs ++ ys) h)
 
-all-below : (inputs : List Taken) (l : Positions) → Fits inputs l → All (λ x. x.file < 2 ^ 31) (joined l.areas)
-all-below inputs l f =
+all-below : (options : Options) (inputs : List Taken) (l : Positions) → Fits options inputs l → All (λ x. x.file < 2 ^ 31) (joined l.areas)
+all-below options inputs l f =
     let total = f.total in
     let small = f.small in
     areas-below BLOCK (2 ^ 31) (joined l.areas) (omega arith)
@@ -86,20 +87,20 @@ same-first : (news a : List Area) (more : List (List Area)) (e : Taken) (o : Opt
 same-first news a more e None h = serve-same (granule_of e.machine) news e.loads a h.0
 same-first news a more e (Some f) h = serve-same (granule_of e.machine) news e.loads a h.0
 
-pub first-same : (e : Taken) (o : Option Taken) (l : Positions) (a b : List Area) → Fits (inputs_of e o) l → l.areas ≡ a ∷ b ∷ [] → length a ≡ length e.loads
-first-same e o l a b f is = same-first (new_areas BLOCK (joined l.areas)) a (b ∷ []) e o (subst (FitAll (new_areas BLOCK (joined l.areas)) (inputs_of e o)) is f.areas)
+pub first-same : (options : Options) (e : Taken) (o : Option Taken) (l : Positions) (a b : List Area) → Fits options (inputs_of e o) l → l.areas ≡ a ∷ b ∷ [] → length a ≡ length e.loads
+first-same options e o l a b f is = same-first (new_areas BLOCK (joined l.areas)) a (b ∷ []) e o (subst (FitAll (new_areas BLOCK (joined l.areas)) (inputs_of e o)) is f.areas)
 
-pub first-below : (inputs : List Taken) (l : Positions) (a b : List Area) → Fits inputs l → l.areas ≡ a ∷ b ∷ [] → All (λ x. x.file < 2 ^ 31) a
-first-below inputs l a b f is = front-all (2 ^ 31) a (b ++ []) (subst (λ areas. All (λ x. x.file < 2 ^ 31) (joined areas)) is (all-below inputs l f))
+pub first-below : (options : Options) (inputs : List Taken) (l : Positions) (a b : List Area) → Fits options inputs l → l.areas ≡ a ∷ b ∷ [] → All (λ x. x.file < 2 ^ 31) a
+first-below options inputs l a b f is = front-all (2 ^ 31) a (b ++ []) (subst (λ areas. All (λ x. x.file < 2 ^ 31) (joined areas)) is (all-below options inputs l f))
 
 -- the areas of the second
-pub second-same : (e f : Taken) (l : Positions) (a b : List Area) → Fits (e ∷ f ∷ []) l → l.areas ≡ a ∷ b ∷ [] → length b ≡ length f.loads
-second-same e f l a b h is =
+pub second-same : (options : Options) (e f : Taken) (l : Positions) (a b : List Area) → Fits options (e ∷ f ∷ []) l → l.areas ≡ a ∷ b ∷ [] → length b ≡ length f.loads
+second-same options e f l a b h is =
     let all : FitAll (new_areas BLOCK (joined l.areas)) (e ∷ f ∷ []) (a ∷ b ∷ []) = subst (FitAll (new_areas BLOCK (joined l.areas)) (e ∷ f ∷ [])) is h.areas in
     serve-same (granule_of f.machine) (new_areas BLOCK (joined l.areas)) f.loads b all.1.0
 
-pub second-below : (inputs : List Taken) (l : Positions) (a b : List Area) → Fits inputs l → l.areas ≡ a ∷ b ∷ [] → All (λ x. x.file < 2 ^ 31) b
-second-below inputs l a b f is = front-all (2 ^ 31) b [] (back-all (2 ^ 31) a (b ++ []) (subst (λ areas. All (λ x. x.file < 2 ^ 31) (joined areas)) is (all-below inputs l f)))
+pub second-below : (options : Options) (inputs : List Taken) (l : Positions) (a b : List Area) → Fits options inputs l → l.areas ≡ a ∷ b ∷ [] → All (λ x. x.file < 2 ^ 31) b
+second-below options inputs l a b f is = front-all (2 ^ 31) b [] (back-all (2 ^ 31) a (b ++ []) (subst (λ areas. All (λ x. x.file < 2 ^ 31) (joined areas)) is (all-below options inputs l f)))
 
 -- areas that are others
 pub below-as : (now own : List Area) → now ≡ own → All (λ x. x.file < 2 ^ 31) own → All (λ x. x.file < 2 ^ 31) now
@@ -120,7 +121,7 @@ claims-two at end e f areas (t ∷ []) a b are is = absurd are.1
 claims-two at end e f areas (t ∷ u ∷ []) a b are is = rw is refl
 claims-two at end e f areas (t ∷ u ∷ v ∷ more) a b are is = absurd are.1.1
 
-pub two-claims : (e f : Taken) (l : Positions) (a b now later : List Area) (t u : ℕ) → Fits (e ∷ f ∷ []) l → l.areas ≡ a ∷ b ∷ [] → now ≡ a → later ≡ b → t ≡ get_or l.tables 0 0 → u ≡ get_or l.tables 1 0
+pub two-claims : (options : Options) (e f : Taken) (l : Positions) (a b now later : List Area) (t u : ℕ) → Fits options (e ∷ f ∷ []) l → l.areas ≡ a ∷ b ∷ [] → now ≡ a → later ≡ b → t ≡ get_or l.tables 0 0 → u ≡ get_or l.tables 1 0
     → claim Elf t (table_text e now) ∷ claim Elf u (table_text f later) ∷ [] ≡ table_claims (e ∷ f ∷ []) l.areas l.tables
-two-claims e f l a b now later t u fits is now_is later_is t_is u_is =
-    rw (now_is, later_is, t_is, u_is) (claims-two tables_start l.body_end e f l.areas l.tables a b fits.tables is)
+two-claims options e f l a b now later t u fits is now_is later_is t_is u_is =
+    rw (now_is, later_is, t_is, u_is) (claims-two (tables_start options (e ∷ f ∷ [])) l.body_end e f l.areas l.tables a b fits.tables is)

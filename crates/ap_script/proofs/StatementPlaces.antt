@@ -10,6 +10,7 @@ use Rattle.ap_octal.specs.OctalText.{IsOctal}
 use Rattle.ap_octal.specs.Statement.{octals_of, statement_of}
 use Rattle.ap_octal.proofs.OctalLemmas.{octal-bytes}
 use Rattle.ap_check.specs.declared.options.Systems.{Systems}
+use Rattle.ap_check.specs.declared.options.Options.{Options}
 use Rattle.ap_elf.specs.declared.machine.Machine.{Machine}
 use Rattle.ap_elf.specs.declared.machine.Machine.TheVariants.{X64, A64}
 use Rattle.ap_check.specs.Inputs.{Taken, Meets}
@@ -69,54 +70,54 @@ contained (Some a) (Some b) start k (suc (suc i), low, is) = absurd (omega (arit
 -- ---- nowhere else
 
 -- the parts of the window: the opening, the body, the delimiter's line with the script and the spaces behind it
-marked-behind : (systems : Systems) (inputs : List Taken) (l : Positions) → Fits inputs l
-    → Marked (IsBlank (header_for X64 inputs l.tables) (header_for A64 inputs l.tables) (machines_start systems inputs l)) l.body_end (behind_body systems inputs l)
-marked-behind systems inputs l fits =
+marked-behind : (options : Options) (inputs : List Taken) (l : Positions) → Fits options inputs l
+    → Marked (IsBlank (header_for X64 inputs l.tables) (header_for A64 inputs l.tables) (machines_start options inputs l)) l.body_end (behind_body options inputs l)
+marked-behind options inputs l fits =
     let x = header_for X64 inputs l.tables in
     let y = header_for A64 inputs l.tables in
-    let start : ℕ = machines_start systems inputs l in
-    let number = delimiter_number (body_of inputs l) in
+    let start : ℕ = machines_start options inputs l in
+    let number = delimiter_number (body_of options inputs l) in
     let line = length-closing number in
-    let fill = spaces (WINDOW - length (shell_text systems inputs l)) in
+    let fill = spaces (WINDOW - length (shell_text options inputs l)) in
     let skip : ℕ = l.mach_at / 8 in
     let count : ℕ = l.mach_len / 8 in
     let at : ℕ = l.body_end + length (closing number) in
-    let lines : ℕ = lines_from systems x skip count at in
+    let lines : ℕ = lines_from options.systems x skip count at in
     let same : lines ≡ start = omega arith in
-    marked-append (IsBlank x y start) l.body_end (closing number) (script_of systems x y skip count ++ fill)
+    marked-append (IsBlank x y start) l.body_end (closing number) (script_of options.systems x y skip count ++ fill)
     (marked-quiet (IsBlank x y start) l.body_end (closing number) (quiet-closing number))
-    (marked-script (IsBlank x y start) at systems x y skip count fill (small-units inputs l fits) (no_quote-spaces (WINDOW - length (shell_text systems inputs l)))
+    (marked-script (IsBlank x y start) at options.systems x y skip count fill (small-units options inputs l fits) (no_quote-spaces (WINDOW - length (shell_text options inputs l)))
     (marks-x64 x y start lines same) (marks-a64 x y start lines same))
-    (starts-script systems x y skip count fill)
+    (starts-script options.systems x y skip count fill)
 
 none-opening : (number k : ℕ) → Holds (opening number) k word → ⊥
 none-opening number k h = marked-holds (λ i. ⊥) 0 (opening number) k (marked-clear (λ i. ⊥) 0 (opening number) (clear-opening number)) h
 
-holds-places : (systems : Systems) (inputs : List Taken) (l : Positions) (k : ℕ) → All Meets inputs → Fits inputs l → Holds (window_text systems inputs l) k word → Contains (statement_places systems inputs l) k
-holds-places systems inputs l k meets fits h =
-    let number = delimiter_number (body_of inputs l) in
-    let body = body_of inputs l in
-    let behind = behind_body systems inputs l in
+holds-places : (options : Options) (inputs : List Taken) (l : Positions) (k : ℕ) → All Meets inputs → Fits options inputs l → Holds (window_text options inputs l) k word → Contains (statement_places options inputs l) k
+holds-places options inputs l k meets fits h =
+    let number = delimiter_number (body_of options inputs l) in
+    let body = body_of options inputs l in
+    let behind = behind_body options inputs l in
     let o = length-opening number in
-    let b = length-body inputs l fits in
-    let split : Holds (opening number ++ (body ++ behind)) k word = subst (λ w. Holds w k word) (window-parts systems inputs l) h in
-    elim (parted (opening number) (body ++ behind) k (apart-zero (body ++ behind) (starts-body inputs l behind)) split) [
+    let b = length-body options inputs l fits in
+    let split : Holds (opening number ++ (body ++ behind)) k word = subst (λ w. Holds w k word) (window-parts options inputs l) h in
+    elim (parted (opening number) (body ++ behind) k (apart-zero (body ++ behind) (starts-body options inputs l behind)) split) [
       | inl front ↦ absurd (none-opening number k front)
-      | inr (past, later) ↦ elim (parted body behind (k - length (opening number)) (apart-newline behind (starts-closing number (script_for systems inputs l ++ spaces (WINDOW - length (shell_text systems inputs l))))) later) [
-        | inl inside ↦ absurd (not-in-zeros body (k - length (opening number)) (body-zeros inputs l meets fits) inside)
+      | inr (past, later) ↦ elim (parted body behind (k - length (opening number)) (apart-newline behind (starts-closing number (script_for options inputs l ++ spaces (WINDOW - length (shell_text options inputs l))))) later) [
+        | inl inside ↦ absurd (not-in-zeros body (k - length (opening number)) (body-zeros options inputs l meets fits) inside)
         | inr (beyond, last) ↦
             (let i : ℕ = k - length (opening number) - length body in
-            marked-holds (IsBlank (header_for X64 inputs l.tables) (header_for A64 inputs l.tables) (machines_start systems inputs l)) l.body_end behind i
-            (marked-behind systems inputs l fits) last k (omega arith))
+            marked-holds (IsBlank (header_for X64 inputs l.tables) (header_for A64 inputs l.tables) (machines_start options inputs l)) l.body_end behind i
+            (marked-behind options inputs l fits) last k (omega arith))
       ]
     ]
 
-pub opens-places : (systems : Systems) (inputs : List Taken) (l : Positions) (rest : List ℕ) (k : ℕ) → All Meets inputs → Fits inputs l → Opens (block_of systems inputs l ++ rest) k → Contains (statement_places systems inputs l) k
-opens-places systems inputs l rest k meets fits o =
-    let long = length-window systems inputs l fits in
+pub opens-places : (options : Options) (inputs : List Taken) (l : Positions) (rest : List ℕ) (k : ℕ) → All Meets inputs → Fits options inputs l → Opens (block_of options inputs l ++ rest) k → Contains (statement_places options inputs l) k
+opens-places options inputs l rest k meets fits o =
+    let long = length-window options inputs l fits in
     let within = o.within in
-    holds-places systems inputs l k meets fits
-    (holds-cut (window_text systems inputs l) (zeros (BLOCK - WINDOW) ++ rest) k (omega arith) (subst (λ w. Holds w k word) (block-parts systems inputs l rest) o.stands))
+    holds-places options inputs l k meets fits
+    (holds-cut (window_text options inputs l) (zeros (BLOCK - WINDOW) ++ rest) k (omega arith) (subst (λ w. Holds w k word) (block-parts options inputs l rest) o.stands))
 
 -- ---- there
 
@@ -130,50 +131,50 @@ script-a64 : (systems : Systems) (x y : Option (List ℕ)) (skip count : ℕ) (h
 script-a64 systems x y skip count header is =
     subst (λ o. Parts (script_of systems x o skip count) (place_behind systems x skip count (length (machine_lines X64 x) + length (machine_start A64))) header) (sym is) (parts-a64 systems x header skip count)
 
-parts-script : (systems : Systems) (inputs : List Taken) (l : Positions) (place : ℕ) (header : List ℕ) → Fits inputs l → Parts (script_for systems inputs l) place header
-    → Parts (window_text systems inputs l) (l.body_end + (17 + place)) header
-parts-script systems inputs l place header fits p =
-    let number = delimiter_number (body_of inputs l) in
-    let body = body_of inputs l in
-    let script = script_for systems inputs l in
-    let fill = spaces (WINDOW - length (shell_text systems inputs l)) in
+parts-script : (options : Options) (inputs : List Taken) (l : Positions) (place : ℕ) (header : List ℕ) → Fits options inputs l → Parts (script_for options inputs l) place header
+    → Parts (window_text options inputs l) (l.body_end + (17 + place)) header
+parts-script options inputs l place header fits p =
+    let number = delimiter_number (body_of options inputs l) in
+    let body = body_of options inputs l in
+    let script = script_for options inputs l in
+    let fill = spaces (WINDOW - length (shell_text options inputs l)) in
     let o = length-opening number in
-    let b = length-body inputs l fits in
+    let b = length-body options inputs l fits in
     let c = length-closing number in
     let where_is : length (opening number) + (length body + (length (closing number) + place)) ≡ l.body_end + (17 + place) = omega arith in
-    subst (λ w. Parts w (l.body_end + (17 + place)) header) (sym (window-parts systems inputs l))
+    subst (λ w. Parts w (l.body_end + (17 + place)) header) (sym (window-parts options inputs l))
     (subst (λ n. Parts (opening number ++ (body ++ (closing number ++ (script ++ fill)))) n header) where_is
     (parts-behind (opening number) (body ++ (closing number ++ (script ++ fill))) (length body + (length (closing number) + place)) header
     (parts-behind body (closing number ++ (script ++ fill)) (length (closing number) + place) header
     (parts-behind (closing number) (script ++ fill) place header (parts-front script fill place header p)))))
 
-pub parts-window : (systems : Systems) (inputs : List Taken) (l : Positions) (m : Machine) (header : List ℕ) → Fits inputs l → header_for m inputs l.tables ≡ Some header
-    → Parts (window_text systems inputs l) (statement_place systems inputs l m) header
-parts-window systems inputs l X64 header fits is =
+pub parts-window : (options : Options) (inputs : List Taken) (l : Positions) (m : Machine) (header : List ℕ) → Fits options inputs l → header_for m inputs l.tables ≡ Some header
+    → Parts (window_text options inputs l) (statement_place options inputs l m) header
+parts-window options inputs l X64 header fits is =
     let x = header_for X64 inputs l.tables in
-    let place : ℕ = place_behind systems x (l.mach_at / 8) (l.mach_len / 8) (length (machine_start X64)) in
-    let same : l.body_end + (17 + place) ≡ statement_place systems inputs l X64 = omega arith in
-    subst (λ n. Parts (window_text systems inputs l) n header) same
-    (parts-script systems inputs l place header fits (script-x64 systems x (header_for A64 inputs l.tables) (l.mach_at / 8) (l.mach_len / 8) header is))
-parts-window systems inputs l A64 header fits is =
+    let place : ℕ = place_behind options.systems x (l.mach_at / 8) (l.mach_len / 8) (length (machine_start X64)) in
+    let same : l.body_end + (17 + place) ≡ statement_place options inputs l X64 = omega arith in
+    subst (λ n. Parts (window_text options inputs l) n header) same
+    (parts-script options inputs l place header fits (script-x64 options.systems x (header_for A64 inputs l.tables) (l.mach_at / 8) (l.mach_len / 8) header is))
+parts-window options inputs l A64 header fits is =
     let x = header_for X64 inputs l.tables in
-    let place : ℕ = place_behind systems x (l.mach_at / 8) (l.mach_len / 8) (length (machine_lines X64 x) + length (machine_start A64)) in
-    let same : l.body_end + (17 + place) ≡ statement_place systems inputs l A64 = omega arith in
-    subst (λ n. Parts (window_text systems inputs l) n header) same
-    (parts-script systems inputs l place header fits (script-a64 systems x (header_for A64 inputs l.tables) (l.mach_at / 8) (l.mach_len / 8) header is))
+    let place : ℕ = place_behind options.systems x (l.mach_at / 8) (l.mach_len / 8) (length (machine_lines X64 x) + length (machine_start A64)) in
+    let same : l.body_end + (17 + place) ≡ statement_place options inputs l A64 = omega arith in
+    subst (λ n. Parts (window_text options inputs l) n header) same
+    (parts-script options inputs l place header fits (script-a64 options.systems x (header_for A64 inputs l.tables) (l.mach_at / 8) (l.mach_len / 8) header is))
 
-pub parts-block : (systems : Systems) (inputs : List Taken) (l : Positions) (rest : List ℕ) (m : Machine) (header : List ℕ) → Fits inputs l → header_for m inputs l.tables ≡ Some header
-    → Parts (block_of systems inputs l ++ rest) (statement_place systems inputs l m) header
-parts-block systems inputs l rest m header fits is =
-    subst (λ w. Parts w (statement_place systems inputs l m) header) (sym (block-parts systems inputs l rest))
-    (parts-front (window_text systems inputs l) (zeros (BLOCK - WINDOW) ++ rest) (statement_place systems inputs l m) header (parts-window systems inputs l m header fits is))
+pub parts-block : (options : Options) (inputs : List Taken) (l : Positions) (rest : List ℕ) (m : Machine) (header : List ℕ) → Fits options inputs l → header_for m inputs l.tables ≡ Some header
+    → Parts (block_of options inputs l ++ rest) (statement_place options inputs l m) header
+parts-block options inputs l rest m header fits is =
+    subst (λ w. Parts w (statement_place options inputs l m) header) (sym (block-parts options inputs l rest))
+    (parts-front (window_text options inputs l) (zeros (BLOCK - WINDOW) ++ rest) (statement_place options inputs l m) header (parts-window options inputs l m header fits is))
 
 -- it ends in the window
-pub place-within : (systems : Systems) (inputs : List Taken) (l : Positions) (m : Machine) (header : List ℕ) → Fits inputs l → header_for m inputs l.tables ≡ Some header
-    → statement_place systems inputs l m + length (statement_of header) ≤ WINDOW
-place-within systems inputs l m header fits is =
-    let p = parts-window systems inputs l m header fits is in
-    let long = length-window systems inputs l fits in
+pub place-within : (options : Options) (inputs : List Taken) (l : Positions) (m : Machine) (header : List ℕ) → Fits options inputs l → header_for m inputs l.tables ≡ Some header
+    → statement_place options inputs l m + length (statement_of header) ≤ WINDOW
+place-within options inputs l m header fits is =
+    let p = parts-window options inputs l m header fits is in
+    let long = length-window options inputs l fits in
     let whole = ap length p.whole in
     let a = length-append p.front (statement_of header ++ p.behind) in
     let b = length-append (statement_of header) p.behind in
@@ -267,18 +268,18 @@ embeds-parts file place m header p within is =
 
 -- ---- exactly there
 
-pub opens-block : (systems : Systems) (inputs : List Taken) (l : Positions) (rest : List ℕ) (m : Machine) (header : List ℕ) → Fits inputs l → header_for m inputs l.tables ≡ Some header
-    → Opens (block_of systems inputs l ++ rest) (statement_place systems inputs l m)
-opens-block systems inputs l rest m header fits is =
-    opens-parts (block_of systems inputs l ++ rest) (statement_place systems inputs l m) header (parts-block systems inputs l rest m header fits is) (place-within systems inputs l m header fits is)
+pub opens-block : (options : Options) (inputs : List Taken) (l : Positions) (rest : List ℕ) (m : Machine) (header : List ℕ) → Fits options inputs l → header_for m inputs l.tables ≡ Some header
+    → Opens (block_of options inputs l ++ rest) (statement_place options inputs l m)
+opens-block options inputs l rest m header fits is =
+    opens-parts (block_of options inputs l ++ rest) (statement_place options inputs l m) header (parts-block options inputs l rest m header fits is) (place-within options inputs l m header fits is)
 
-places-open : (systems : Systems) (inputs : List Taken) (l : Positions) (rest : List ℕ) (k : ℕ) → Fits inputs l → Contains (statement_places systems inputs l) k → Opens (block_of systems inputs l ++ rest) k
-places-open systems inputs l rest k fits c =
-    elim (contained (header_for X64 inputs l.tables) (header_for A64 inputs l.tables) (machines_start systems inputs l) k c) [
-      | inl (header, is, at) ↦ subst (Opens (block_of systems inputs l ++ rest)) (sym at) (opens-block systems inputs l rest X64 header fits is)
-      | inr (header, is, at) ↦ subst (Opens (block_of systems inputs l ++ rest)) (sym at) (opens-block systems inputs l rest A64 header fits is)
+places-open : (options : Options) (inputs : List Taken) (l : Positions) (rest : List ℕ) (k : ℕ) → Fits options inputs l → Contains (statement_places options inputs l) k → Opens (block_of options inputs l ++ rest) k
+places-open options inputs l rest k fits c =
+    elim (contained (header_for X64 inputs l.tables) (header_for A64 inputs l.tables) (machines_start options inputs l) k c) [
+      | inl (header, is, at) ↦ subst (Opens (block_of options inputs l ++ rest)) (sym at) (opens-block options inputs l rest X64 header fits is)
+      | inr (header, is, at) ↦ subst (Opens (block_of options inputs l ++ rest)) (sym at) (opens-block options inputs l rest A64 header fits is)
     ]
 
-pub opens-only : (systems : Systems) (inputs : List Taken) (l : Positions) (rest : List ℕ) (k : ℕ) → All Meets inputs → Fits inputs l
-    → Opens (block_of systems inputs l ++ rest) k ↔ Contains (statement_places systems inputs l) k
-opens-only systems inputs l rest k meets fits = (opens-places systems inputs l rest k meets fits, places-open systems inputs l rest k fits)
+pub opens-only : (options : Options) (inputs : List Taken) (l : Positions) (rest : List ℕ) (k : ℕ) → All Meets inputs → Fits options inputs l
+    → Opens (block_of options inputs l ++ rest) k ↔ Contains (statement_places options inputs l) k
+opens-only options inputs l rest k meets fits = (opens-places options inputs l rest k meets fits, places-open options inputs l rest k fits)

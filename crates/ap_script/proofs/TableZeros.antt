@@ -18,6 +18,7 @@ use Rattle.ap_elf.specs.declared.machine.Machine.{Machine}
 use Rattle.ap_elf.specs.declared.machine.Machine.TheVariants.{X64, A64}
 use Rattle.ap_check.specs.declared.load.Load.{Load}
 use Rattle.ap_elf.specs.Machines.{granule_of}
+use Rattle.ap_check.specs.declared.options.Options.{Options}
 use Rattle.ap_check.specs.Inputs.{Taken, IsLoad, AreLoads, IsTls, Meets, has_part, in_part, is_note}
 use Rattle.ap_layout.specs.declared.layout.Area.{Area}
 use Rattle.ap_layout.specs.Areas.{end_of, after, end_from, is_new, new_areas, Among, Serves, ServeAll}
@@ -132,8 +133,8 @@ among-end c (b ∷ areas) a (inl is) =
     omega arith
 among-end c (b ∷ areas) a (inr later) = among-end (after c b) areas a later
 
-pub news-low : (inputs : List Taken) (l : Positions) → Fits inputs l → NewsLow (new_areas BLOCK (joined l.areas))
-news-low inputs l f a h =
+pub news-low : (options : Options) (inputs : List Taken) (l : Positions) → Fits options inputs l → NewsLow (new_areas BLOCK (joined l.areas))
+news-low options inputs l f a h =
     let end = among-end BLOCK (joined l.areas) a (among-new BLOCK (joined l.areas) a h) in
     let total = f.total in
     let small = f.small in
@@ -308,6 +309,6 @@ zeros-by text h k fits =
           ))
     ]
 
-pub body-zeros : (inputs : List Taken) (l : Positions) → All Meets inputs → Fits inputs l → HasZeros (body_of inputs l)
+pub body-zeros : (options : Options) (inputs : List Taken) (l : Positions) → All Meets inputs → Fits options inputs l → HasZeros (body_of options inputs l)
 unfolding body_of
-body-zeros inputs l meets fits = zeros-by (tables_text inputs l.areas) (eighths-tables (new_areas BLOCK (joined l.areas)) inputs l.areas meets (news-low inputs l fits) fits.areas)
+body-zeros options inputs l meets fits = zeros-by (tables_text inputs l.areas) (eighths-tables (new_areas BLOCK (joined l.areas)) inputs l.areas meets (news-low options inputs l fits) fits.areas)

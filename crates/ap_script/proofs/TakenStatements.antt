@@ -14,7 +14,7 @@ use Rattle.ap_octal.proofs.WindowLemmas.{window-opens}
 use Rattle.ap_octal.specs.Statement.{octals_of, statement_of}
 use Rattle.ap_loader.specs.Embedded.{before_quote, header_in, header_at, taken}
 use Rattle.ap_loader.proofs.HeaderLemmas.{header_at-embeds, header_at-closed, taken-some, taken-none, opens-within}
-use Rattle.ap_check.specs.declared.options.Systems.{Systems}
+use Rattle.ap_check.specs.declared.options.Options.{Options}
 use Rattle.ap_elf.specs.declared.machine.Machine.{Machine}
 use Rattle.ap_elf.specs.declared.machine.Machine.TheVariants.{X64, A64}
 use Rattle.ap_elf.specs.Machines.{number_of}
@@ -32,51 +32,51 @@ is-some : (m : Machine) (found : Option (List ℕ)) (header : List ℕ) → IfSo
 is-some m found header h is = subst (λ o. IfSome o (IsHeader m)) is h
 
 -- a machine's statement as a loader for a machine of a number reads it
-header-there : (systems : Systems) (inputs : List Taken) (l : Positions) (rest : List ℕ) (n : ℕ) (m : Machine) (header : List ℕ) → Fits inputs l → header_for m inputs l.tables ≡ Some header
-    → header_at n (take WINDOW (block_of systems inputs l ++ rest)) (statement_place systems inputs l m) ≡ cond (number_of m == n) (Some header) None
-header-there systems inputs l rest n m header fits is =
-    let file = block_of systems inputs l ++ rest in
-    let place : ℕ = statement_place systems inputs l m in
+header-there : (options : Options) (inputs : List Taken) (l : Positions) (rest : List ℕ) (n : ℕ) (m : Machine) (header : List ℕ) → Fits options inputs l → header_for m inputs l.tables ≡ Some header
+    → header_at n (take WINDOW (block_of options inputs l ++ rest)) (statement_place options inputs l m) ≡ cond (number_of m == n) (Some header) None
+header-there options inputs l rest n m header fits is =
+    let file = block_of options inputs l ++ rest in
+    let place : ℕ = statement_place options inputs l m in
     let is_header = is-some m (header_for m inputs l.tables) header (header-is m inputs l.tables) is in
     let long = is_header.long in
-    header_at-embeds n file place (place + 8 + length (octals_of header)) header header (opens-block systems inputs l rest m header fits is)
-    (embeds-parts file place m header (parts-block systems inputs l rest m header fits is) (place-within systems inputs l m header fits is) is_header)
+    header_at-embeds n file place (place + 8 + length (octals_of header)) header header (opens-block options inputs l rest m header fits is)
+    (embeds-parts file place m header (parts-block options inputs l rest m header fits is) (place-within options inputs l m header fits is) is_header)
     (sym (take_all 64 header (omega arith)))
     ∙ ap (λ b. cond b (Some header) None) (is_header.begins n)
 
 -- the places ascend
-places-ascend : (systems : Systems) (inputs : List Taken) (l : Positions) (header : List ℕ) → header_for X64 inputs l.tables ≡ Some header → statement_place systems inputs l X64 ≤ statement_place systems inputs l A64
-places-ascend systems inputs l header is =
+places-ascend : (options : Options) (inputs : List Taken) (l : Positions) (header : List ℕ) → header_for X64 inputs l.tables ≡ Some header → statement_place options inputs l X64 ≤ statement_place options inputs l A64
+places-ascend options inputs l header is =
     let lines = ap (λ o. length (machine_lines X64 o)) is in
     let a = length-append (machine_start X64) (statement_of header ++ machine_end) in
     omega arith
 
 -- in front of the x86-64 statement there is none
-before-x64 : (systems : Systems) (inputs : List Taken) (l : Positions) (rest header : List ℕ) (j : ℕ) → All Meets inputs → Fits inputs l → header_for X64 inputs l.tables ≡ Some header
-    → j < statement_place systems inputs l X64 → header_at 62 (take WINDOW (block_of systems inputs l ++ rest)) j ≡ None
-before-x64 systems inputs l rest header j meets fits is low =
-    let ascend = places-ascend systems inputs l header is in
-    header_at-closed 62 (block_of systems inputs l ++ rest) j (λ o.
-    elim (contained (header_for X64 inputs l.tables) (header_for A64 inputs l.tables) (machines_start systems inputs l) j (opens-places systems inputs l rest j meets fits o)) [
+before-x64 : (options : Options) (inputs : List Taken) (l : Positions) (rest header : List ℕ) (j : ℕ) → All Meets inputs → Fits options inputs l → header_for X64 inputs l.tables ≡ Some header
+    → j < statement_place options inputs l X64 → header_at 62 (take WINDOW (block_of options inputs l ++ rest)) j ≡ None
+before-x64 options inputs l rest header j meets fits is low =
+    let ascend = places-ascend options inputs l header is in
+    header_at-closed 62 (block_of options inputs l ++ rest) j (λ o.
+    elim (contained (header_for X64 inputs l.tables) (header_for A64 inputs l.tables) (machines_start options inputs l) j (opens-places options inputs l rest j meets fits o)) [
       | inl (h, some, at) ↦ omega arith
       | inr (h, some, at) ↦ omega arith
     ])
 
 -- in front of the AArch64 statement there is at most the x86-64 one, which is for another machine
-before-a64 : (systems : Systems) (inputs : List Taken) (l : Positions) (rest : List ℕ) (j : ℕ) → All Meets inputs → Fits inputs l
-    → j < statement_place systems inputs l A64 → header_at 183 (take WINDOW (block_of systems inputs l ++ rest)) j ≡ None
-before-a64 systems inputs l rest j meets fits low =
-    let file = block_of systems inputs l ++ rest in
+before-a64 : (options : Options) (inputs : List Taken) (l : Positions) (rest : List ℕ) (j : ℕ) → All Meets inputs → Fits options inputs l
+    → j < statement_place options inputs l A64 → header_at 183 (take WINDOW (block_of options inputs l ++ rest)) j ≡ None
+before-a64 options inputs l rest j meets fits low =
+    let file = block_of options inputs l ++ rest in
     elim (which (header_for X64 inputs l.tables)) [
       | inr none ↦ header_at-closed 183 file j (λ o.
-          elim (contained (header_for X64 inputs l.tables) (header_for A64 inputs l.tables) (machines_start systems inputs l) j (opens-places systems inputs l rest j meets fits o)) [
+          elim (contained (header_for X64 inputs l.tables) (header_for A64 inputs l.tables) (machines_start options inputs l) j (opens-places options inputs l rest j meets fits o)) [
             | inl (h, some, at) ↦ none h some
             | inr (h, some, at) ↦ omega arith
           ])
-      | inl (first, is) ↦ elim (same_or j (statement_place systems inputs l X64)) [
-        | inl here ↦ ap (header_at 183 (take WINDOW file)) here ∙ header-there systems inputs l rest 183 X64 first fits is
+      | inl (first, is) ↦ elim (same_or j (statement_place options inputs l X64)) [
+        | inl here ↦ ap (header_at 183 (take WINDOW file)) here ∙ header-there options inputs l rest 183 X64 first fits is
         | inr other ↦ header_at-closed 183 file j (λ o.
-            elim (contained (header_for X64 inputs l.tables) (header_for A64 inputs l.tables) (machines_start systems inputs l) j (opens-places systems inputs l rest j meets fits o)) [
+            elim (contained (header_for X64 inputs l.tables) (header_for A64 inputs l.tables) (machines_start options inputs l) j (opens-places options inputs l rest j meets fits o)) [
               | inl (h, some, at) ↦ other at
               | inr (h, some, at) ↦ omega arith
             ])
@@ -94,18 +94,18 @@ before-a64 systems inputs l rest j meets fits low =
           | inr high ↦ elim (cases_lt b a) [ inl above ↦ inr (λ e. omega arith) | inr equal ↦ inl (omega arith) ]
         ]
 
-pub taken-block : (systems : Systems) (inputs : List Taken) (l : Positions) (rest : List ℕ) (m : Machine) (header : List ℕ) → All Meets inputs → Fits inputs l → header_for m inputs l.tables ≡ Some header
-    → taken (number_of m) (block_of systems inputs l ++ rest) ≡ Some (statement_place systems inputs l m, header)
-taken-block systems inputs l rest X64 header meets fits is =
-    let file = block_of systems inputs l ++ rest in
-    let place : ℕ = statement_place systems inputs l X64 in
-    taken-some 62 file header place (block-magic systems inputs l rest) (opens-within file place (opens-block systems inputs l rest X64 header fits is)) (header-there systems inputs l rest 62 X64 header fits is)
-    (λ j low. before-x64 systems inputs l rest header j meets fits is low)
-taken-block systems inputs l rest A64 header meets fits is =
-    let file = block_of systems inputs l ++ rest in
-    let place : ℕ = statement_place systems inputs l A64 in
-    taken-some 183 file header place (block-magic systems inputs l rest) (opens-within file place (opens-block systems inputs l rest A64 header fits is)) (header-there systems inputs l rest 183 A64 header fits is)
-    (λ j low. before-a64 systems inputs l rest j meets fits low)
+pub taken-block : (options : Options) (inputs : List Taken) (l : Positions) (rest : List ℕ) (m : Machine) (header : List ℕ) → All Meets inputs → Fits options inputs l → header_for m inputs l.tables ≡ Some header
+    → taken (number_of m) (block_of options inputs l ++ rest) ≡ Some (statement_place options inputs l m, header)
+taken-block options inputs l rest X64 header meets fits is =
+    let file = block_of options inputs l ++ rest in
+    let place : ℕ = statement_place options inputs l X64 in
+    taken-some 62 file header place (block-magic options inputs l rest) (opens-within file place (opens-block options inputs l rest X64 header fits is)) (header-there options inputs l rest 62 X64 header fits is)
+    (λ j low. before-x64 options inputs l rest header j meets fits is low)
+taken-block options inputs l rest A64 header meets fits is =
+    let file = block_of options inputs l ++ rest in
+    let place : ℕ = statement_place options inputs l A64 in
+    taken-some 183 file header place (block-magic options inputs l rest) (opens-within file place (opens-block options inputs l rest A64 header fits is)) (header-there options inputs l rest 183 A64 header fits is)
+    (λ j low. before-a64 options inputs l rest j meets fits low)
 
 -- ---- the header of each input
 
@@ -171,10 +171,10 @@ count-headers at end (e ∷ inputs) (t ∷ tables) differ are =
     (λ same. none-for A64 inputs tables (subst (λ m. All (λ f. m ≢ f.machine) inputs) same differ.0))
     ∙ ap suc (count-headers (at + table_length e) end inputs tables differ.1 are.1)
 
-pub count-places : (systems : Systems) (inputs : List Taken) (l : Positions) → MachinesDiffer inputs → Fits inputs l → length (statement_places systems inputs l) ≡ length inputs
-count-places systems inputs l differ fits =
-    length-places (header_for X64 inputs l.tables) (header_for A64 inputs l.tables) (statement_place systems inputs l X64) (statement_place systems inputs l A64)
-    ∙ count-headers tables_start l.body_end inputs l.tables differ fits.tables
+pub count-places : (options : Options) (inputs : List Taken) (l : Positions) → MachinesDiffer inputs → Fits options inputs l → length (statement_places options inputs l) ≡ length inputs
+count-places options inputs l differ fits =
+    length-places (header_for X64 inputs l.tables) (header_for A64 inputs l.tables) (statement_place options inputs l X64) (statement_place options inputs l A64)
+    ∙ count-headers (tables_start options inputs) l.body_end inputs l.tables differ fits.tables
 
 -- ---- where the first two tables stand
 
@@ -195,33 +195,33 @@ other-machine m n inputs apart is k d low = λ same. apart k d low (ap number_of
 header-machine : (m : Machine) (n : ℕ) (inputs : List Taken) (tables header : List ℕ) → All (λ e. number_of e.machine ≢ n) inputs → header_for m inputs tables ≡ Some header → number_of m ≢ n
 header-machine m n inputs tables header apart is same = let none : None ≡ Some header = sym (none-for m inputs tables (other-machine m n inputs apart same)) ∙ is in cc
 
-nothing-there : (systems : Systems) (inputs : List Taken) (l : Positions) (rest : List ℕ) (n : ℕ) (m : Machine) (header : List ℕ) (j : ℕ) → Fits inputs l → All (λ e. number_of e.machine ≢ n) inputs
-    → header_for m inputs l.tables ≡ Some header → j ≡ statement_place systems inputs l m → header_at n (take WINDOW (block_of systems inputs l ++ rest)) j ≡ None
-nothing-there systems inputs l rest n m header j fits apart is at =
+nothing-there : (options : Options) (inputs : List Taken) (l : Positions) (rest : List ℕ) (n : ℕ) (m : Machine) (header : List ℕ) (j : ℕ) → Fits options inputs l → All (λ e. number_of e.machine ≢ n) inputs
+    → header_for m inputs l.tables ≡ Some header → j ≡ statement_place options inputs l m → header_at n (take WINDOW (block_of options inputs l ++ rest)) j ≡ None
+nothing-there options inputs l rest n m header j fits apart is at =
     let other = header-machine m n inputs l.tables header apart is in
     let test : (number_of m == n) ≡ false = grind (arith, nat_tests) in
-    ap (header_at n (take WINDOW (block_of systems inputs l ++ rest))) at
-    ∙ header-there systems inputs l rest n m header fits is
+    ap (header_at n (take WINDOW (block_of options inputs l ++ rest))) at
+    ∙ header-there options inputs l rest n m header fits is
     ∙ ap (λ b. cond b (Some header) None) test
 
-nothing-at : (systems : Systems) (inputs : List Taken) (l : Positions) (rest : List ℕ) (n j : ℕ) → All Meets inputs → Fits inputs l → All (λ e. number_of e.machine ≢ n) inputs
-    → header_at n (take WINDOW (block_of systems inputs l ++ rest)) j ≡ None
-nothing-at systems inputs l rest n j meets fits apart =
-    elim (cases_Bool (occurs_at (take WINDOW (block_of systems inputs l ++ rest)) (codes "printf '") j)) [
+nothing-at : (options : Options) (inputs : List Taken) (l : Positions) (rest : List ℕ) (n j : ℕ) → All Meets inputs → Fits options inputs l → All (λ e. number_of e.machine ≢ n) inputs
+    → header_at n (take WINDOW (block_of options inputs l ++ rest)) j ≡ None
+nothing-at options inputs l rest n j meets fits apart =
+    elim (cases_Bool (occurs_at (take WINDOW (block_of options inputs l ++ rest)) (codes "printf '") j)) [
       | inl there ↦
-          elim (contained (header_for X64 inputs l.tables) (header_for A64 inputs l.tables) (machines_start systems inputs l) j
-          (opens-places systems inputs l rest j meets fits (window-opens (block_of systems inputs l ++ rest) j (OccursAt-true (take WINDOW (block_of systems inputs l ++ rest)) (codes "printf '") j there)))) [
-            | inl (h, some, at) ↦ nothing-there systems inputs l rest n X64 h j fits apart some at
-            | inr (h, some, at) ↦ nothing-there systems inputs l rest n A64 h j fits apart some at
+          elim (contained (header_for X64 inputs l.tables) (header_for A64 inputs l.tables) (machines_start options inputs l) j
+          (opens-places options inputs l rest j meets fits (window-opens (block_of options inputs l ++ rest) j (OccursAt-true (take WINDOW (block_of options inputs l ++ rest)) (codes "printf '") j there)))) [
+            | inl (h, some, at) ↦ nothing-there options inputs l rest n X64 h j fits apart some at
+            | inr (h, some, at) ↦ nothing-there options inputs l rest n A64 h j fits apart some at
           ]
-      | inr missing ↦ ap (λ b. cond b (option_and_then (header_in n) (option_and_then octal_bytes_of (before_quote (drop (j + 8) (take WINDOW (block_of systems inputs l ++ rest)))))) None) missing
+      | inr missing ↦ ap (λ b. cond b (option_and_then (header_in n) (option_and_then octal_bytes_of (before_quote (drop (j + 8) (take WINDOW (block_of options inputs l ++ rest)))))) None) missing
     ]
 
 -- a loader for a machine that no input is for takes none
-pub taken-other : (systems : Systems) (inputs : List Taken) (l : Positions) (rest : List ℕ) (n : ℕ) → All Meets inputs → Fits inputs l → All (λ e. number_of e.machine ≢ n) inputs
-    → taken n (block_of systems inputs l ++ rest) ≡ None
-taken-other systems inputs l rest n meets fits apart =
-    taken-none n (block_of systems inputs l ++ rest) (block-magic systems inputs l rest) (λ k. nothing-at systems inputs l rest n k meets fits apart)
+pub taken-other : (options : Options) (inputs : List Taken) (l : Positions) (rest : List ℕ) (n : ℕ) → All Meets inputs → Fits options inputs l → All (λ e. number_of e.machine ≢ n) inputs
+    → taken n (block_of options inputs l ++ rest) ≡ None
+taken-other options inputs l rest n meets fits apart =
+    taken-none n (block_of options inputs l ++ rest) (block-magic options inputs l rest) (λ k. nothing-at options inputs l rest n k meets fits apart)
 
 -- ---- the places
 
@@ -237,13 +237,13 @@ places-order-by (Some header) start =
     omega arith
 
 -- they ascend, whatever inputs there are
-pub places-order : (systems : Systems) (inputs : List Taken) (l : Positions) → statement_place systems inputs l X64 < statement_place systems inputs l A64
-places-order systems inputs l = places-order-by (header_for X64 inputs l.tables) (machines_start systems inputs l)
+pub places-order : (options : Options) (inputs : List Taken) (l : Positions) → statement_place options inputs l X64 < statement_place options inputs l A64
+places-order options inputs l = places-order-by (header_for X64 inputs l.tables) (machines_start options inputs l)
 
 -- ---- what the statement of an input embeds
 
-pub embeds-block : (systems : Systems) (inputs : List Taken) (l : Positions) (rest : List ℕ) (m : Machine) (header : List ℕ) → Fits inputs l → header_for m inputs l.tables ≡ Some header
-    → Embeds (block_of systems inputs l ++ rest) (statement_place systems inputs l m) (statement_place systems inputs l m + 8 + length (octals_of header)) header
-embeds-block systems inputs l rest m header fits is =
-    embeds-parts (block_of systems inputs l ++ rest) (statement_place systems inputs l m) m header (parts-block systems inputs l rest m header fits is)
-    (place-within systems inputs l m header fits is) (is-some m (header_for m inputs l.tables) header (header-is m inputs l.tables) is)
+pub embeds-block : (options : Options) (inputs : List Taken) (l : Positions) (rest : List ℕ) (m : Machine) (header : List ℕ) → Fits options inputs l → header_for m inputs l.tables ≡ Some header
+    → Embeds (block_of options inputs l ++ rest) (statement_place options inputs l m) (statement_place options inputs l m + 8 + length (octals_of header)) header
+embeds-block options inputs l rest m header fits is =
+    embeds-parts (block_of options inputs l ++ rest) (statement_place options inputs l m) m header (parts-block options inputs l rest m header fits is)
+    (place-within options inputs l m header fits is) (is-some m (header_for m inputs l.tables) header (header-is m inputs l.tables) is)

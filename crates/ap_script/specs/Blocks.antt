@@ -4,7 +4,7 @@ use Rattle.std.specs.Prelude.{ℕ, ◌-◌, ◌/◌, List, [], ◌∷◌, ◌++�
 use Rattle.ap_fields.specs.declared.sizes.TheConstants.{BLOCK, WINDOW}
 use Rattle.ap_fields.specs.Bytes.{zeros}
 use Rattle.ap_elf.specs.declared.machine.Machine.TheVariants.{X64, A64}
-use Rattle.ap_check.specs.declared.options.Systems.{Systems}
+use Rattle.ap_check.specs.declared.options.Options.{Options}
 use Rattle.ap_check.specs.Inputs.{Taken}
 use Rattle.ap_layout.specs.declared.layout.Area.{Area}
 use Rattle.ap_layout.specs.Positions.{Positions}
@@ -35,31 +35,31 @@ tables_text (e ∷ inputs) [] = []
 tables_text (e ∷ inputs) (areas ∷ more) = table_text e areas ++ tables_text inputs more
 
 -- the here-document's body, from 86 on: zeros up to 96, where the tables stand
-unfoldable pub body_of : List Taken → Positions → List ℕ
-body_of inputs l = zeros 10 ++ tables_text inputs l.areas
+unfoldable pub body_of : Options → List Taken → Positions → List ℕ
+body_of options inputs l = zeros 10 ++ tables_text inputs l.areas
 
 -- the line that ends the here-document
 unfoldable pub closing : ℕ → List ℕ
 closing number = codes "\n" ++ (delimiter number ++ codes "\n")
 
 -- the script, by the inputs and the positions
-abbrev pub script_for : Systems → List Taken → Positions → List ℕ
-script_for systems inputs l = script_of systems (header_for X64 inputs l.tables) (header_for A64 inputs l.tables) (l.mach_at / 8) (l.mach_len / 8)
+abbrev pub script_for : Options → List Taken → Positions → List ℕ
+script_for options inputs l = script_of options.systems (header_for X64 inputs l.tables) (header_for A64 inputs l.tables) (l.mach_at / 8) (l.mach_len / 8)
 
-unfoldable pub shell_text : Systems → List Taken → Positions → List ℕ
-shell_text systems inputs l =
-    let number = delimiter_number (body_of inputs l) in
-    opening number ++ (body_of inputs l ++ (closing number ++ script_for systems inputs l))
+unfoldable pub shell_text : Options → List Taken → Positions → List ℕ
+shell_text options inputs l =
+    let number = delimiter_number (body_of options inputs l) in
+    opening number ++ (body_of options inputs l ++ (closing number ++ script_for options inputs l))
 
 unfoldable pub spaces : ℕ → List ℕ
 spaces n = replicate n 32
 
 -- what stands in the first half behind the body: the delimiter's line, the script, and spaces
-abbrev pub ending_of : Systems → List Taken → Positions → List ℕ
-ending_of systems inputs l =
-    closing (delimiter_number (body_of inputs l)) ++ (script_for systems inputs l ++ spaces (WINDOW - length (shell_text systems inputs l)))
+abbrev pub ending_of : Options → List Taken → Positions → List ℕ
+ending_of options inputs l =
+    closing (delimiter_number (body_of options inputs l)) ++ (script_for options inputs l ++ spaces (WINDOW - length (shell_text options inputs l)))
 
 -- the first half ends in spaces, and the second half is for a header that other systems read
-unfoldable pub block_of : Systems → List Taken → Positions → List ℕ
-block_of systems inputs l =
-    shell_text systems inputs l ++ (spaces (WINDOW - length (shell_text systems inputs l)) ++ zeros (BLOCK - WINDOW))
+unfoldable pub block_of : Options → List Taken → Positions → List ℕ
+block_of options inputs l =
+    shell_text options inputs l ++ (spaces (WINDOW - length (shell_text options inputs l)) ++ zeros (BLOCK - WINDOW))

@@ -7,7 +7,7 @@ use Rattle.ap_claims.specs.Lists.{Claim}
 use Rattle.ap_claims.specs.Files.{IsFile}
 use Rattle.ap_octal.specs.Statement.{statement_of}
 use Rattle.ap_elf.specs.declared.machine.Machine.TheVariants.{X64, A64}
-use Rattle.ap_check.specs.declared.options.Systems.{Systems}
+use Rattle.ap_check.specs.declared.options.Options.{Options}
 use Rattle.ap_check.specs.Inputs.{Taken}
 use Rattle.ap_layout.specs.declared.layout.Area.{Area}
 use Rattle.ap_layout.specs.Positions.{Positions, Fits}
@@ -34,26 +34,26 @@ statement_claims None place = []
 statement_claims (Some header) place = claim Ape place (statement_of header) ∷ []
 
 -- what an APE loader looks for
-abbrev pub ape_claims : Systems → List Taken → Positions → List Claim
-ape_claims systems inputs l =
+abbrev pub ape_claims : Options → List Taken → Positions → List Claim
+ape_claims options inputs l =
     claim Ape 0 magic
-    ∷ (statement_claims (header_for X64 inputs l.tables) (statement_place systems inputs l X64)
-    ++ statement_claims (header_for A64 inputs l.tables) (statement_place systems inputs l A64))
+    ∷ (statement_claims (header_for X64 inputs l.tables) (statement_place options inputs l X64)
+    ++ statement_claims (header_for A64 inputs l.tables) (statement_place options inputs l A64))
 
 -- the script, and what makes a shell skip the body
-abbrev pub shell_claims : Systems → List Taken → Positions → List Claim
-shell_claims systems inputs l =
+abbrev pub shell_claims : Options → List Taken → Positions → List Claim
+shell_claims options inputs l =
     claim Shell 0 magic_line
-    ∷ claim Shell 64 (opening_line (delimiter_number (body_of inputs l)))
-    ∷ claim Shell l.body_end (ending_of systems inputs l)
+    ∷ claim Shell 64 (opening_line (delimiter_number (body_of options inputs l)))
+    ∷ claim Shell l.body_end (ending_of options inputs l)
     ∷ []
 
-abbrev pub script_claims : Systems → List Taken → Positions → List Claim
-script_claims systems inputs l = ape_claims systems inputs l ++ shell_claims systems inputs l
+abbrev pub script_claims : Options → List Taken → Positions → List Claim
+script_claims options inputs l = ape_claims options inputs l ++ shell_claims options inputs l
 
-abbrev pub block_claims : Systems → List Taken → Positions → List Claim
-block_claims systems inputs l = table_claims inputs l.areas l.tables ++ script_claims systems inputs l
+abbrev pub block_claims : Options → List Taken → Positions → List Claim
+block_claims options inputs l = table_claims inputs l.areas l.tables ++ script_claims options inputs l
 
 -- the block is the file of its claims
 abbrev pub BlockIsClaimed : Type 0
-BlockIsClaimed = (systems : Systems) (inputs : List Taken) (l : Positions) → Fits inputs l → IsFile BLOCK (block_claims systems inputs l) (block_of systems inputs l)
+BlockIsClaimed = (options : Options) (inputs : List Taken) (l : Positions) → Fits options inputs l → IsFile BLOCK (block_claims options inputs l) (block_of options inputs l)

@@ -3,7 +3,7 @@ use Rattle.std.specs.Prelude.{◌≡◌, ◌≢◌, ◌⊎◌, ℕ, ◌+◌, ◌
 use Rattle.ap_fields.specs.Bytes.{Holds}
 use Rattle.ap_elf.specs.declared.machine.Machine.{Machine}
 use Rattle.ap_elf.specs.declared.machine.Machine.TheVariants.{X64, A64}
-use Rattle.ap_check.specs.declared.options.Systems.{Systems}
+use Rattle.ap_check.specs.declared.options.Options.{Options}
 use Rattle.ap_check.specs.Inputs.{Taken}
 use Rattle.ap_layout.specs.declared.layout.Area.{Area}
 use Rattle.ap_layout.specs.Positions.{Positions}
@@ -37,14 +37,14 @@ abbrev pub HasPart : List ℕ → List ℕ → Type 0
 HasPart text part = (front : List ℕ) × (behind : List ℕ) × (text ≡ front ++ (part ++ behind))
 
 -- where the lines for machines begin: behind the body, the delimiter's line of 17 bytes and the script's first lines
-abbrev pub machines_start : Systems → List Taken → Positions → ℕ
-machines_start systems inputs l =
-    l.body_end + (17 + (length script_start + length (system_lines systems (header_for X64 inputs l.tables) (l.mach_at / 8) (l.mach_len / 8))))
+abbrev pub machines_start : Options → List Taken → Positions → ℕ
+machines_start options inputs l =
+    l.body_end + (17 + (length script_start + length (system_lines options.systems (header_for X64 inputs l.tables) (l.mach_at / 8) (l.mach_len / 8))))
 
 -- where the statement for a machine stands
-abbrev pub statement_place : Systems → List Taken → Positions → Machine → ℕ
-statement_place systems inputs l X64 = machines_start systems inputs l + length (machine_start X64)
-statement_place systems inputs l A64 = machines_start systems inputs l + (length (machine_lines X64 (header_for X64 inputs l.tables)) + length (machine_start A64))
+abbrev pub statement_place : Options → List Taken → Positions → Machine → ℕ
+statement_place options inputs l X64 = machines_start options inputs l + length (machine_start X64)
+statement_place options inputs l A64 = machines_start options inputs l + (length (machine_lines X64 (header_for X64 inputs l.tables)) + length (machine_start A64))
 
 -- a place, where there is a header
 abbrev pub place_if : Option (List ℕ) → ℕ → List ℕ
@@ -52,7 +52,7 @@ place_if None place = []
 place_if (Some header) place = place ∷ []
 
 -- where the script has its statements, that for x86-64 first
-abbrev pub statement_places : Systems → List Taken → Positions → List ℕ
-statement_places systems inputs l =
-    place_if (header_for X64 inputs l.tables) (statement_place systems inputs l X64)
-    ++ place_if (header_for A64 inputs l.tables) (statement_place systems inputs l A64)
+abbrev pub statement_places : Options → List Taken → Positions → List ℕ
+statement_places options inputs l =
+    place_if (header_for X64 inputs l.tables) (statement_place options inputs l X64)
+    ++ place_if (header_for A64 inputs l.tables) (statement_place options inputs l A64)

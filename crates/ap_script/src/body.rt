@@ -18,8 +18,8 @@ use arrayvec::ArrayVec;
 /// The body: zeros up to byte 96 of the linked file, and a program header table for each input.
 #[tactic(auto, using(std::proofs::Common::append_assoc), unfolding(crate::specs::Blocks::body_of))]
 pub(crate) fn body(job: &Job<'_>, lay: &Layout) -> Text
-    requires { Fits (job_inputs job.now) lay.now }
-    ensures items { result.items ≡ body_of (job_inputs job.now) lay.now }
+    requires { Fits job.now.options (job_inputs job.now) lay.now }
+    ensures items { result.items ≡ body_of job.now.options (job_inputs job.now) lay.now }
     ensures len { length result.items ≤ 3482 }
 {
     let mut body = ArrayVec::new();

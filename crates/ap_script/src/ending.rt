@@ -38,14 +38,14 @@ pub(crate) struct Ending {
 impl Ending {
     /// The ending behind the body, whose delimiter has this number.
     pub(crate) fn new(job: &Job<'_>, lay: &Layout, number: u32) -> Ending
-        requires fits { Fits (job_inputs job.now) lay.now }
-        requires number { number ≡ delimiter_number (body_of (job_inputs job.now) lay.now) }
-        ensures text { result.text.items ≡ ending_of job.now.options.systems (job_inputs job.now) lay.now }
+        requires fits { Fits job.now.options (job_inputs job.now) lay.now }
+        requires number { number ≡ delimiter_number (body_of job.now.options (job_inputs job.now) lay.now) }
+        ensures text { result.text.items ≡ ending_of job.now.options (job_inputs job.now) lay.now }
         ensures len { lay.now.body_end + length result.text.items ≡ WINDOW }
         ensures x64 { result.x64.header ≡ header_for X64 (job_inputs job.now) lay.now.tables }
         ensures a64 { result.a64.header ≡ header_for A64 (job_inputs job.now) lay.now.tables }
-        ensures x64_place { result.x64.place ≡ statement_place job.now.options.systems (job_inputs job.now) lay.now X64 }
-        ensures a64_place { result.a64.place ≡ statement_place job.now.options.systems (job_inputs job.now) lay.now A64 }
+        ensures x64_place { result.x64.place ≡ statement_place job.now.options (job_inputs job.now) lay.now X64 }
+        ensures a64_place { result.a64.place ≡ statement_place job.now.options (job_inputs job.now) lay.now A64 }
         ensures x64_room { result.x64.place + 265 ≤ WINDOW }
         ensures a64_room { result.a64.place + 265 ≤ WINDOW }
     {

@@ -14,7 +14,7 @@ use ap_layout::{Layout, entry_count};
 /// an executable file whose program header table is the one that stands in the linked file for the input.
 pub fn elf_header(job: &Job<'_>, lay: &Layout, i: usize) -> [u8; 64]
     requires input { i < length (job_inputs job.now) }
-    requires fits { Fits (job_inputs job.now) lay.now }
+    requires fits { Fits job.now.options (job_inputs job.now) lay.now }
     ensures { result ≡ embedded_at (job_inputs job.now) lay.now.tables i }
 {
     match job.second {
@@ -25,7 +25,7 @@ pub fn elf_header(job: &Job<'_>, lay: &Layout, i: usize) -> [u8; 64]
 
 /// The embedded header of the first input for a machine.
 pub(crate) fn machine_header(job: &Job<'_>, lay: &Layout, machine: Machine) -> Option<[u8; 64]>
-    requires { Fits (job_inputs job.now) lay.now }
+    requires { Fits job.now.options (job_inputs job.now) lay.now }
     ensures { result ≡ script.header_for machine (job_inputs job.now) lay.now.tables }
 {
     if is_for(job.first, machine) {

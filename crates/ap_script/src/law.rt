@@ -5,7 +5,7 @@ ghost use Rattle.ap_fields.specs.Bytes.{Holds};
 ghost use Rattle.ap_octal.specs.Embedded.{Opens, Embeds};
 ghost use Rattle.ap_octal.specs.Statement.{octals_of, statement_of};
 ghost use Rattle.ap_loader.specs.Embedded.{has_magic, taken};
-ghost use Rattle.ap_check.specs.declared.options.Systems.{Systems};
+ghost use Rattle.ap_check.specs.declared.options.Options.{Options};
 ghost use Rattle.ap_elf.specs.declared.machine.Machine.TheVariants.{X64, A64};
 ghost use Rattle.ap_elf.specs.Machines.{granule_of, number_of};
 ghost use Rattle.ap_check.specs.Inputs.{Taken, Meets};
@@ -26,9 +26,9 @@ pub fn headers_have_lengths()
 
 /// A block has 16384 bytes, and the here-document and the script end in its first half.
 pub fn blocks_have_lengths()
-    ensures body { (inputs : List Taken) (l : Positions) → Fits inputs l → 86 + length (body_of inputs l) ≡ l.body_end }
-    ensures text { (systems : Systems) (inputs : List Taken) (l : Positions) → Fits inputs l → length (shell_text systems inputs l) ≤ WINDOW }
-    ensures block { (systems : Systems) (inputs : List Taken) (l : Positions) → Fits inputs l → length (block_of systems inputs l) ≡ BLOCK }
+    ensures body { (options : Options) (inputs : List Taken) (l : Positions) → Fits options inputs l → 86 + length (body_of options inputs l) ≡ l.body_end }
+    ensures text { (options : Options) (inputs : List Taken) (l : Positions) → Fits options inputs l → length (shell_text options inputs l) ≤ WINDOW }
+    ensures block { (options : Options) (inputs : List Taken) (l : Positions) → Fits options inputs l → length (block_of options inputs l) ≡ BLOCK }
 {}
 
 /// The block is the file of its claims: each claim's bytes stand at its place, and 0 where no claim is.
@@ -39,43 +39,43 @@ pub fn blocks_are_claimed()
 /// A file that begins with a block begins as an Actually Portable Executable (APE specification), and has the here-document's
 /// body from 86 on and each program header table at its place.
 pub fn blocks_hold_tables()
-    ensures begins { (systems : Systems) (inputs : List Taken) (l : Positions) (rest : List ℕ) → Holds (block_of systems inputs l ++ rest) 0 (codes "jartsr='") }
-    ensures magic { (systems : Systems) (inputs : List Taken) (l : Positions) (rest : List ℕ) → has_magic (block_of systems inputs l ++ rest) ≡ true }
-    ensures body { (systems : Systems) (inputs : List Taken) (l : Positions) (rest : List ℕ) → Holds (block_of systems inputs l ++ rest) 86 (body_of inputs l) }
-    ensures tables { (systems : Systems) (inputs : List Taken) (l : Positions) (rest : List ℕ) → Fits inputs l → HoldsTables (block_of systems inputs l ++ rest) inputs l.areas l.tables }
+    ensures begins { (options : Options) (inputs : List Taken) (l : Positions) (rest : List ℕ) → Holds (block_of options inputs l ++ rest) 0 (codes "jartsr='") }
+    ensures magic { (options : Options) (inputs : List Taken) (l : Positions) (rest : List ℕ) → has_magic (block_of options inputs l ++ rest) ≡ true }
+    ensures body { (options : Options) (inputs : List Taken) (l : Positions) (rest : List ℕ) → Holds (block_of options inputs l ++ rest) 86 (body_of options inputs l) }
+    ensures tables { (options : Options) (inputs : List Taken) (l : Positions) (rest : List ℕ) → Fits options inputs l → HoldsTables (block_of options inputs l ++ rest) inputs l.areas l.tables }
 {}
 
 /// Each eight bytes of the body that follow each other hold a zero byte, so no statement stands in it.
 pub fn bodies_hold_zeros()
-    ensures { (inputs : List Taken) (l : Positions) → All Meets inputs → Fits inputs l → HasZeros (body_of inputs l) }
+    ensures { (options : Options) (inputs : List Taken) (l : Positions) → All Meets inputs → Fits options inputs l → HasZeros (body_of options inputs l) }
 {}
 
 /// In the first 8192 bytes of a file that begins with a block `printf '` stands where the script has its statements, one for
 /// each input, that for x86-64 first, and nowhere else. What stands there is the canonical statement of the input's embedded
 /// header, up to a quote in the same bytes, and embeds that header (APE specification).
 pub fn statements_stand()
-    ensures only { (systems : Systems) (inputs : List Taken) (l : Positions) (rest : List ℕ) (k : ℕ) → All Meets inputs → Fits inputs l
-        → Opens (block_of systems inputs l ++ rest) k ↔ Contains (statement_places systems inputs l) k }
-    ensures count { (systems : Systems) (inputs : List Taken) (l : Positions) → MachinesDiffer inputs → Fits inputs l
-        → length (statement_places systems inputs l) ≡ length inputs }
-    ensures order { (systems : Systems) (inputs : List Taken) (l : Positions) → statement_place systems inputs l X64 < statement_place systems inputs l A64 }
-    ensures text { (systems : Systems) (inputs : List Taken) (l : Positions) (rest : List ℕ) (e : Taken) (t : ℕ) → MachinesDiffer inputs → Fits inputs l
-        → HasTable inputs l.tables e t → Holds (block_of systems inputs l ++ rest) (statement_place systems inputs l e.machine) (statement_of (embedded_bytes e t)) }
-    ensures within { (systems : Systems) (inputs : List Taken) (l : Positions) (e : Taken) (t : ℕ) → MachinesDiffer inputs → Fits inputs l
-        → HasTable inputs l.tables e t → statement_place systems inputs l e.machine + length (statement_of (embedded_bytes e t)) ≤ WINDOW }
-    ensures embeds { (systems : Systems) (inputs : List Taken) (l : Positions) (rest : List ℕ) (e : Taken) (t : ℕ) → MachinesDiffer inputs → Fits inputs l
+    ensures only { (options : Options) (inputs : List Taken) (l : Positions) (rest : List ℕ) (k : ℕ) → All Meets inputs → Fits options inputs l
+        → Opens (block_of options inputs l ++ rest) k ↔ Contains (statement_places options inputs l) k }
+    ensures count { (options : Options) (inputs : List Taken) (l : Positions) → MachinesDiffer inputs → Fits options inputs l
+        → length (statement_places options inputs l) ≡ length inputs }
+    ensures order { (options : Options) (inputs : List Taken) (l : Positions) → statement_place options inputs l X64 < statement_place options inputs l A64 }
+    ensures text { (options : Options) (inputs : List Taken) (l : Positions) (rest : List ℕ) (e : Taken) (t : ℕ) → MachinesDiffer inputs → Fits options inputs l
+        → HasTable inputs l.tables e t → Holds (block_of options inputs l ++ rest) (statement_place options inputs l e.machine) (statement_of (embedded_bytes e t)) }
+    ensures within { (options : Options) (inputs : List Taken) (l : Positions) (e : Taken) (t : ℕ) → MachinesDiffer inputs → Fits options inputs l
+        → HasTable inputs l.tables e t → statement_place options inputs l e.machine + length (statement_of (embedded_bytes e t)) ≤ WINDOW }
+    ensures embeds { (options : Options) (inputs : List Taken) (l : Positions) (rest : List ℕ) (e : Taken) (t : ℕ) → MachinesDiffer inputs → Fits options inputs l
         → HasTable inputs l.tables e t
-        → let place = statement_place systems inputs l e.machine in
-        Embeds (block_of systems inputs l ++ rest) place (place + 8 + length (octals_of (embedded_bytes e t))) (embedded_bytes e t) }
+        → let place = statement_place options inputs l e.machine in
+        Embeds (block_of options inputs l ++ rest) place (place + 8 + length (octals_of (embedded_bytes e t))) (embedded_bytes e t) }
 {}
 
 /// A loader for the machine of an input takes the input's statement (APE specification), whatever stands behind the block. A
 /// loader for a machine that no input is for takes none.
 pub fn statements_are_taken()
-    ensures taken { (systems : Systems) (inputs : List Taken) (l : Positions) (rest : List ℕ) (e : Taken) (t : ℕ) → All Meets inputs → MachinesDiffer inputs → Fits inputs l
-        → HasTable inputs l.tables e t → taken (number_of e.machine) (block_of systems inputs l ++ rest) ≡ Some (statement_place systems inputs l e.machine, embedded_bytes e t) }
-    ensures other { (systems : Systems) (inputs : List Taken) (l : Positions) (rest : List ℕ) (number : ℕ) → All Meets inputs → Fits inputs l
-        → All (λ e. number_of e.machine ≢ number) inputs → taken number (block_of systems inputs l ++ rest) ≡ None }
+    ensures taken { (options : Options) (inputs : List Taken) (l : Positions) (rest : List ℕ) (e : Taken) (t : ℕ) → All Meets inputs → MachinesDiffer inputs → Fits options inputs l
+        → HasTable inputs l.tables e t → taken (number_of e.machine) (block_of options inputs l ++ rest) ≡ Some (statement_place options inputs l e.machine, embedded_bytes e t) }
+    ensures other { (options : Options) (inputs : List Taken) (l : Positions) (rest : List ℕ) (number : ℕ) → All Meets inputs → Fits options inputs l
+        → All (λ e. number_of e.machine ≢ number) inputs → taken number (block_of options inputs l ++ rest) ≡ None }
 {}
 
 /// The delimiter of a body that is shorter than 8192 bytes has a number below 8192 and stands nowhere in the body, whether a

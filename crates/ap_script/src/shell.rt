@@ -24,8 +24,8 @@ use arrayvec::ArrayVec;
 /// `Clash` comes exactly where a byte of them is held with another value, and is the first such byte in the order of the claims.
 /// Then only claims in front of its own have been made.
 pub fn write_script(block: &mut Block, job: &Job<'_>, lay: &Layout) -> Result<(), Clash>
-    requires { Fits (job_inputs job.now) lay.now }
-    ensures { Makes block.old block.new (script_claims job.now.options.systems (job_inputs job.now) lay.now) result }
+    requires { Fits job.now.options (job_inputs job.now) lay.now }
+    ensures { Makes block.old block.new (script_claims job.now.options (job_inputs job.now) lay.now) result }
 {
     let number = choose_delimiter(&body(job, lay));
     let ending = Ending::new(job, lay, number);

@@ -19,7 +19,7 @@ use arrayvec::ArrayVec;
 /// `Clash` comes exactly where a byte of them is held with another value, and is the first such byte. Then only tables in front
 /// of its own have been claimed.
 pub fn write_tables(block: &mut Block, job: &Job<'_>, lay: &Layout) -> Result<(), Clash>
-    requires { Fits (job_inputs job.now) lay.now }
+    requires { Fits job.now.options (job_inputs job.now) lay.now }
     ensures { Makes block.old block.new (table_claims (job_inputs job.now) lay.now.areas lay.now.tables) result }
 {
     write_table(block, job.first, &lay.areas[0], lay.tables[0])?;

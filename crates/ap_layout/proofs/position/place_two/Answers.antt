@@ -6,16 +6,16 @@ use Rattle.ap_layout.proofs.position.place_two.Goals as goal
 
 pub returns-clause-positions : goal.returns-clause-positions
 returns-clause-positions c =
-    made-two c.args.e.now c.args.f.now c.areas_from-first.result.areas.items c.areas_from-second.result.areas.items c.push-2.new.self.items c.table_length-behind.result c.table_length.result c.areas_from-first.result.end c.areas_from-second.result.end
-    c.areas_from-first.ensures.areas c.areas_from-first.ensures.end c.areas_from-second.ensures.areas
-    (c.push-2.ensures.items ∙ ap (λ l. l ++ (96 + c.table_length-behind.result) ∷ []) (c.push.ensures.items ∙ ap (λ l. l ++ 96 ∷ []) c.new-tables.ensures))
-    c.table_length-behind.ensures.length c.table_length.ensures.length c.areas_from-second.ensures.end
+    made-two c.args.job.now.options c.args.job.now.first.now c.args.second.now c.areas_from-placed.result.areas.items c.areas_from-behind.result.areas.items c.push-2.new.self.items c.table_length-table.result c.table_length.result c.areas_from-placed.result.end c.areas_from-behind.result.end
+    c.areas_from-placed.ensures.areas c.areas_from-placed.ensures.end c.areas_from-behind.ensures.areas
+    (c.push-2.ensures.items ∙ ap (λ l. l ++ (96 + c.table_length-table.result) ∷ []) (c.push.ensures.items ∙ ap (λ l. l ++ 96 ∷ []) c.new-tables.ensures))
+    c.table_length-table.ensures.length c.table_length.ensures.length c.areas_from-behind.ensures.end
 
 pub returns-clause-fits : goal.returns-clause-fits
 returns-clause-fits c =
-    subst (λ (l : Positions). Fits (c.args.e.now ∷ c.args.f.now ∷ []) l)
-    (sym (made-two c.args.e.now c.args.f.now c.areas_from-first.result.areas.items c.areas_from-second.result.areas.items c.push-2.new.self.items c.table_length-behind.result c.table_length.result c.areas_from-first.result.end c.areas_from-second.result.end
-    c.areas_from-first.ensures.areas c.areas_from-first.ensures.end c.areas_from-second.ensures.areas
-    (c.push-2.ensures.items ∙ ap (λ l. l ++ (96 + c.table_length-behind.result) ∷ []) (c.push.ensures.items ∙ ap (λ l. l ++ 96 ∷ []) c.new-tables.ensures))
-    c.table_length-behind.ensures.length c.table_length.ensures.length c.areas_from-second.ensures.end))
-    (positions-fit c.args.e.now (Some c.args.f.now) c.areas_from-first.ensures.meets c.areas_from-second.ensures.meets)
+    subst (λ (l : Positions). Fits c.args.job.now.options (c.args.job.now.first.now ∷ c.args.second.now ∷ []) l)
+    (sym (made-two c.args.job.now.options c.args.job.now.first.now c.args.second.now c.areas_from-placed.result.areas.items c.areas_from-behind.result.areas.items c.push-2.new.self.items c.table_length-table.result c.table_length.result c.areas_from-placed.result.end c.areas_from-behind.result.end
+    c.areas_from-placed.ensures.areas c.areas_from-placed.ensures.end c.areas_from-behind.ensures.areas
+    (c.push-2.ensures.items ∙ ap (λ l. l ++ (96 + c.table_length-table.result) ∷ []) (c.push.ensures.items ∙ ap (λ l. l ++ 96 ∷ []) c.new-tables.ensures))
+    c.table_length-table.ensures.length c.table_length.ensures.length c.areas_from-behind.ensures.end))
+    (positions-fit c.args.job.now.options c.args.job.now.first.now (Some c.args.second.now) c.areas_from-placed.ensures.meets c.areas_from-behind.ensures.meets)

@@ -6,12 +6,12 @@ use Rattle.ap_link.proofs.build.build.Goals as goal
 
 pub returns-clause-filled : goal.returns-clause-filled
 returns-clause-filled c =
-    filled-at c.args.job.now.options.systems (job_inputs c.args.job.now) c.place-lay.result (positions_of c.args.job.now.first.now (option_copied c.args.job.now.second)) c.fill.new.block c.place-lay.ensures.positions c.fill.ensures.filled
+    filled-at c.args.job.now.options (job_inputs c.args.job.now) c.place-lay.result (positions_of c.args.job.now.options c.args.job.now.first.now (option_copied c.args.job.now.second)) c.fill.new.block c.place-lay.ensures.positions c.fill.ensures.filled
 
 pub returns-in_err-extend_from_slice-clause-filled : goal.returns-in_err-extend_from_slice-clause-filled
 returns-in_err-extend_from_slice-clause-filled c =
-    filled-at c.args.job.now.options.systems (job_inputs c.args.job.now) c.place-lay.result (positions_of c.args.job.now.first.now (option_copied c.args.job.now.second)) c.fill.new.block c.place-lay.ensures.positions c.fill.ensures.filled
+    filled-at c.args.job.now.options (job_inputs c.args.job.now) c.place-lay.result (positions_of c.args.job.now.options c.args.job.now.first.now (option_copied c.args.job.now.second)) c.fill.new.block c.place-lay.ensures.positions c.fill.ensures.filled
 
 pub returns-in_err-push_inputs-clause-filled : goal.returns-in_err-push_inputs-clause-filled
 returns-in_err-push_inputs-clause-filled c =
-    filled-at c.args.job.now.options.systems (job_inputs c.args.job.now) c.place-lay.result (positions_of c.args.job.now.first.now (option_copied c.args.job.now.second)) c.fill.new.block c.place-lay.ensures.positions c.fill.ensures.filled
+    filled-at c.args.job.now.options (job_inputs c.args.job.now) c.place-lay.result (positions_of c.args.job.now.options c.args.job.now.first.now (option_copied c.args.job.now.second)) c.fill.new.block c.place-lay.ensures.positions c.fill.ensures.filled

@@ -9,12 +9,12 @@ use Rattle.ap_link.proofs.LaidAreas.{first-areas, second-areas}
 use Rattle.ap_link.proofs.build.push_inputs.Goals as goal
 
 pub push_input-requires-clause-areas : goal.push_input-requires-clause-areas
-push_input-requires-clause-areas c = c.areas_of-areas.ensures ∙ first-areas c.args.job.now.first.now (option_copied c.args.job.now.second) c.args.lay.now c.requires.positions
+push_input-requires-clause-areas c = c.areas_of-areas.ensures ∙ first-areas c.args.job.now.options c.args.job.now.first.now (option_copied c.args.job.now.second) c.args.lay.now c.requires.positions
 
 pub end_behind-end-requires : goal.end_behind-end-requires
 end_behind-end-requires c =
     let e = c.args.job.now.first.now in
-    let same = ap (end_from BLOCK) (c.areas_of-areas.ensures ∙ first-areas e (option_copied c.args.job.now.second) c.args.lay.now c.requires.positions) in
+    let same = ap (end_from BLOCK) (c.areas_of-areas.ensures ∙ first-areas c.args.job.now.options e (option_copied c.args.job.now.second) c.args.lay.now c.requires.positions) in
     let low = first-end e c.push_input.ensures.meets in
     omega arith
 
@@ -22,14 +22,14 @@ pub push_input-requires-in-Some-clause-areas : goal.push_input-requires-in-Some-
 push_input-requires-in-Some-clause-areas c =
     let e = c.args.job.now.first.now in
     let f = c.in-Some.input.now in
-    let positions = c.requires.positions ∙ ap (λ o. positions_of e (option_copied o)) c.in-Some.is in
-    let first = c.areas_of-areas.ensures ∙ first-areas e (Some f) c.args.lay.now positions in
-    c.areas_of-behind.ensures ∙ second-areas e f c.args.lay.now positions ∙ sym (ap (λ n. input_areas f n) (c.end_behind-end.ensures ∙ ap (end_from BLOCK) first))
+    let positions = c.requires.positions ∙ ap (λ o. positions_of c.args.job.now.options e (option_copied o)) c.in-Some.is in
+    let first = c.areas_of-areas.ensures ∙ first-areas c.args.job.now.options e (Some f) c.args.lay.now positions in
+    c.areas_of-behind.ensures ∙ second-areas c.args.job.now.options e f c.args.lay.now positions ∙ sym (ap (λ n. input_areas f n) (c.end_behind-end.ensures ∙ ap (end_from BLOCK) first))
 
 pub push_input-requires-in-Some-clause-low : goal.push_input-requires-in-Some-clause-low
 push_input-requires-in-Some-clause-low c =
     let e = c.args.job.now.first.now in
-    let same = c.end_behind-end.ensures ∙ ap (end_from BLOCK) (c.areas_of-areas.ensures ∙ first-areas e (option_copied c.args.job.now.second) c.args.lay.now c.requires.positions) in
+    let same = c.end_behind-end.ensures ∙ ap (end_from BLOCK) (c.areas_of-areas.ensures ∙ first-areas c.args.job.now.options e (option_copied c.args.job.now.second) c.args.lay.now c.requires.positions) in
     let low = first-end e c.push_input.ensures.meets in
     omega arith
 
@@ -39,7 +39,7 @@ returns-in_ok-push_input-2 c =
     let f = c.in-Some.input.now in
     let a = c.args.first.now in
     let b = c.args.second.now in
-    let from = c.end_behind-end.ensures ∙ ap (end_from BLOCK) (c.areas_of-areas.ensures ∙ first-areas e (option_copied c.args.job.now.second) c.args.lay.now c.requires.positions) in
+    let from = c.end_behind-end.ensures ∙ ap (end_from BLOCK) (c.areas_of-areas.ensures ∙ first-areas c.args.job.now.options e (option_copied c.args.job.now.second) c.args.lay.now c.requires.positions) in
     c.in_ok-push_input-2.ensures.text
     ∙ ap (λ x. x ++ input_text c.end_behind-end.result f b) c.in_ok-push_input.ensures.text
     ∙ append_assoc c.args.out.now.items (input_text BLOCK e a) (input_text c.end_behind-end.result f b)

@@ -8,7 +8,7 @@ use Rattle.ap_link.proofs.PutInputs.{size-grown, both-put, first-broken}
 use Rattle.ap_link.proofs.make.put_both.Goals as goal
 
 pub put_first-requires-clause-areas : goal.put_first-requires-clause-areas
-put_first-requires-clause-areas g c = first-areas c.args.first.now.input.now (Some c.args.second.now.input.now) c.args.lay.now c.requires.lay
+put_first-requires-clause-areas g c = first-areas c.requires.lay.0 c.args.first.now.input.now (Some c.args.second.now.input.now) c.args.lay.now c.requires.lay.1
 
 pub returns-in-Err : goal.returns-in-Err
 returns-in-Err g c =
@@ -16,20 +16,20 @@ returns-in-Err g c =
 
 pub end_behind-end-requires : goal.end_behind-end-requires
 end_behind-end-requires g c =
-    let is = ends-first c.args.first.now.input.now c.areas_of.result.now c.args.lay.now (Some c.args.second.now.input.now) c.requires.lay c.areas_of.ensures in
-    let small = end-small c.args.first.now.input.now c.args.second.now.input.now c.args.lay.now c.requires.lay c.requires.small in
+    let is = ends-first c.requires.lay.0 c.args.first.now.input.now c.areas_of.result.now c.args.lay.now (Some c.args.second.now.input.now) c.requires.lay.1 c.areas_of.ensures in
+    let small = end-small c.requires.lay.0 c.args.first.now.input.now c.args.second.now.input.now c.args.lay.now c.requires.lay.1 c.requires.small in
     omega arith
 
 pub put_input-requires-clause-areas : goal.put_input-requires-clause-areas
 put_input-requires-clause-areas g c =
-    let is = ends-first c.args.first.now.input.now c.areas_of.result.now c.args.lay.now (Some c.args.second.now.input.now) c.requires.lay c.areas_of.ensures in
-    c.areas_of-areas.ensures ∙ second-areas c.args.first.now.input.now c.args.second.now.input.now c.args.lay.now c.requires.lay
+    let is = ends-first c.requires.lay.0 c.args.first.now.input.now c.areas_of.result.now c.args.lay.now (Some c.args.second.now.input.now) c.requires.lay.1 c.areas_of.ensures in
+    c.areas_of-areas.ensures ∙ second-areas c.requires.lay.0 c.args.first.now.input.now c.args.second.now.input.now c.args.lay.now c.requires.lay.1
     ∙ ap (input_areas c.args.second.now.input.now) (sym (c.end_behind-end.ensures ∙ is))
 
 pub put_input-requires-clause-small : goal.put_input-requires-clause-small
 put_input-requires-clause-small g c =
-    let is = ends-first c.args.first.now.input.now c.areas_of.result.now c.args.lay.now (Some c.args.second.now.input.now) c.requires.lay c.areas_of.ensures in
-    let small = end-small c.args.first.now.input.now c.args.second.now.input.now c.args.lay.now c.requires.lay c.requires.small in
+    let is = ends-first c.requires.lay.0 c.args.first.now.input.now c.areas_of.result.now c.args.lay.now (Some c.args.second.now.input.now) c.requires.lay.1 c.areas_of.ensures in
+    let small = end-small c.requires.lay.0 c.args.first.now.input.now c.args.second.now.input.now c.args.lay.now c.requires.lay.1 c.requires.small in
     let end = c.end_behind-end.ensures in
     omega arith
 
@@ -44,6 +44,6 @@ put_input-requires-clause-out g c =
 
 pub returns : goal.returns
 returns g c =
-    let is = ends-first c.args.first.now.input.now c.areas_of.result.now c.args.lay.now (Some c.args.second.now.input.now) c.requires.lay c.areas_of.ensures in
+    let is = ends-first c.requires.lay.0 c.args.first.now.input.now c.areas_of.result.now c.args.lay.now (Some c.args.second.now.input.now) c.requires.lay.1 c.areas_of.ensures in
     both-put (g.F.Files.state c.args.files.now) (g.F.Files.state c.put_first.new.files) (g.F.Files.state c.put_input.new.files) c.args.first.now c.args.second.now c.args.out.now c.end_behind-end.result
     c.put_input.result c.requires.apart c.requires.others (c.end_behind-end.ensures ∙ is) c.in_default.ensures c.put_input.ensures

@@ -6,7 +6,7 @@ pub returns-clause-body : goal.returns-clause-body
 returns-clause-body c = length-body
 
 pub returns-clause-text : goal.returns-clause-text
-returns-clause-text c = λ systems inputs l fits. let long = length-text systems inputs l fits in omega arith
+returns-clause-text c = λ options inputs l fits. let long = length-text options inputs l fits in omega arith
 
 pub returns-clause-block : goal.returns-clause-block
 returns-clause-block c = length-block

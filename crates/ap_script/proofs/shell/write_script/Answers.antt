@@ -23,29 +23,29 @@ as-shells b after r n m p q text all n_is p_is t_is h = rw (← n_is, ← p_is, 
 
 pub returns-in_err-write_for_loaders : goal.returns-in_err-write_for_loaders
 returns-in_err-write_for_loaders c =
-    let systems = c.args.job.now.options.systems in
+    let options = c.args.job.now.options in
     let inputs = job_inputs c.args.job.now in
     let l = c.args.lay.now in
     let e = c.new-ending.ensures in
-    stopped-writer (ape_claims systems inputs l) (shell_claims systems inputs l) c.args.block.now c.write_for_loaders.new.block c.write_for_loaders.result c.from_residual.result
+    stopped-writer (ape_claims options inputs l) (shell_claims options inputs l) c.args.block.now c.write_for_loaders.new.block c.write_for_loaders.result c.from_residual.result
     c.in_err-write_for_loaders.field-0.0
     (as-apes c.args.block.now c.write_for_loaders.new.block c.write_for_loaders.result c.new-ending.result.x64.header c.new-ending.result.a64.header
     (header_for X64 inputs l.tables) (header_for A64 inputs l.tables) c.new-ending.result.x64.place c.new-ending.result.a64.place
-    (statement_place systems inputs l X64) (statement_place systems inputs l A64) e.x64 e.a64 e.x64_place e.a64_place c.write_for_loaders.ensures)
+    (statement_place options inputs l X64) (statement_place options inputs l A64) e.x64 e.a64 e.x64_place e.a64_place c.write_for_loaders.ensures)
     c.in_err-write_for_loaders.was (search rules)
 
 pub returns : goal.returns
 returns c =
-    let systems = c.args.job.now.options.systems in
+    let options = c.args.job.now.options in
     let inputs = job_inputs c.args.job.now in
     let l = c.args.lay.now in
     let e = c.new-ending.ensures in
-    let number : c.choose_delimiter-number.result ≡ delimiter_number (body_of inputs l) = search rules in
-    next-writer (ape_claims systems inputs l) (shell_claims systems inputs l) c.args.block.now c.write_for_loaders.new.block c.write_for_shells.new.block c.write_for_loaders.result c.write_for_shells.result
+    let number : c.choose_delimiter-number.result ≡ delimiter_number (body_of options inputs l) = search rules in
+    next-writer (ape_claims options inputs l) (shell_claims options inputs l) c.args.block.now c.write_for_loaders.new.block c.write_for_shells.new.block c.write_for_loaders.result c.write_for_shells.result
     c.in_ok-write_for_loaders.field-0
     (as-apes c.args.block.now c.write_for_loaders.new.block c.write_for_loaders.result c.new-ending.result.x64.header c.new-ending.result.a64.header
     (header_for X64 inputs l.tables) (header_for A64 inputs l.tables) c.new-ending.result.x64.place c.new-ending.result.a64.place
-    (statement_place systems inputs l X64) (statement_place systems inputs l A64) e.x64 e.a64 e.x64_place e.a64_place c.write_for_loaders.ensures)
+    (statement_place options inputs l X64) (statement_place options inputs l A64) e.x64 e.a64 e.x64_place e.a64_place c.write_for_loaders.ensures)
     c.in_ok-write_for_loaders.was
-    (as-shells c.write_for_loaders.new.block c.write_for_shells.new.block c.write_for_shells.result c.choose_delimiter-number.result (delimiter_number (body_of inputs l))
-    c.lay.inside.body_end l.body_end c.deref-2.result.now (ending_of systems inputs l) number (ap (λ l. l.body_end) c.lay.view_is) (c.deref-2.ensures.0 ∙ e.text) c.write_for_shells.ensures)
+    (as-shells c.write_for_loaders.new.block c.write_for_shells.new.block c.write_for_shells.result c.choose_delimiter-number.result (delimiter_number (body_of options inputs l))
+    c.lay.inside.body_end l.body_end c.deref-2.result.now (ending_of options inputs l) number (ap (λ l. l.body_end) c.lay.view_is) (c.deref-2.ensures.0 ∙ e.text) c.write_for_shells.ensures)

@@ -16,7 +16,7 @@ write_table-requires-clause-same c =
     let vs = c.lay.inside.areas in
     let two = ap (λ l. l.areas) (sym c.lay.view_is) ∙ two-areas vs v v c.lay.told in
     ap length c.deref.ensures.0
-    ∙ first-same c.args.job.now.first.now (option_copied c.args.job.now.second) c.args.lay.now (get_or vs 0 v).items (get_or vs 1 v).items c.requires two
+    ∙ first-same c.args.job.now.options c.args.job.now.first.now (option_copied c.args.job.now.second) c.args.lay.now (get_or vs 0 v).items (get_or vs 1 v).items c.requires two
 
 pub write_table-requires-clause-places : goal.write_table-requires-clause-places
 write_table-requires-clause-places c =
@@ -24,7 +24,7 @@ write_table-requires-clause-places c =
     let vs = c.lay.inside.areas in
     let two = ap (λ l. l.areas) (sym c.lay.view_is) ∙ two-areas vs v v c.lay.told in
     below-as c.deref.result.now (get_or vs 0 v).items c.deref.ensures.0
-    (first-below (job_inputs c.args.job.now) c.args.lay.now (get_or vs 0 v).items (get_or vs 1 v).items c.requires two)
+    (first-below c.args.job.now.options (job_inputs c.args.job.now) c.args.lay.now (get_or vs 0 v).items (get_or vs 1 v).items c.requires two)
 
 pub write_table-requires-in-Some-clause-same : goal.write_table-requires-in-Some-clause-same
 write_table-requires-in-Some-clause-same c =
@@ -32,8 +32,8 @@ write_table-requires-in-Some-clause-same c =
     let vs = c.lay.inside.areas in
     let two = ap (λ l. l.areas) (sym c.lay.view_is) ∙ two-areas vs v v c.lay.told in
     ap length c.deref-in-Some.ensures.0
-    ∙ second-same c.args.job.now.first.now c.in-Some.second.now c.args.lay.now (get_or vs 0 v).items (get_or vs 1 v).items
-    (subst (λ o. Fits (inputs_of c.args.job.now.first.now (option_copied o)) c.args.lay.now) c.in-Some.is c.requires) two
+    ∙ second-same c.args.job.now.options c.args.job.now.first.now c.in-Some.second.now c.args.lay.now (get_or vs 0 v).items (get_or vs 1 v).items
+    (subst (λ o. Fits c.args.job.now.options (inputs_of c.args.job.now.first.now (option_copied o)) c.args.lay.now) c.in-Some.is c.requires) two
 
 pub write_table-requires-in-Some-clause-places : goal.write_table-requires-in-Some-clause-places
 write_table-requires-in-Some-clause-places c =
@@ -41,7 +41,7 @@ write_table-requires-in-Some-clause-places c =
     let vs = c.lay.inside.areas in
     let two = ap (λ l. l.areas) (sym c.lay.view_is) ∙ two-areas vs v v c.lay.told in
     below-as c.deref-in-Some.result.now (get_or vs 1 v).items c.deref-in-Some.ensures.0
-    (second-below (job_inputs c.args.job.now) c.args.lay.now (get_or vs 0 v).items (get_or vs 1 v).items c.requires two)
+    (second-below c.args.job.now.options (job_inputs c.args.job.now) c.args.lay.now (get_or vs 0 v).items (get_or vs 1 v).items c.requires two)
 
 pub returns-in-Some : goal.returns-in-Some
 returns-in-Some c =
@@ -54,11 +54,11 @@ returns-in-Some c =
     let ts = c.lay.inside.tables.items in
     let two = ap (λ l. l.areas) (sym c.lay.view_is) ∙ two-areas vs v w c.lay.told in
     let tables : l.tables ≡ ts = ap (λ l. l.tables) (sym c.lay.view_is) in
-    let fits : Fits (e ∷ f ∷ []) l = subst (λ o. Fits (inputs_of e (option_copied o)) l) c.in-Some.is c.requires in
+    let fits : Fits c.args.job.now.options (e ∷ f ∷ []) l = subst (λ o. Fits c.args.job.now.options (inputs_of e (option_copied o)) l) c.in-Some.is c.requires in
     let one = claim Elf (get_or c.deref-2.result.now 0 0) (table_text e c.deref.result.now) in
     let other = claim Elf (get_or c.deref-in-Some-2.result.now 1 0) (table_text f c.deref-in-Some.result.now) in
     let claims : one ∷ other ∷ [] ≡ table_claims (job_inputs c.args.job.now) l.areas l.tables =
-    two-claims e f l (get_or vs 0 v).items (get_or vs 1 w).items c.deref.result.now c.deref-in-Some.result.now (get_or c.deref-2.result.now 0 0) (get_or c.deref-in-Some-2.result.now 1 0) fits two
+    two-claims c.args.job.now.options e f l (get_or vs 0 v).items (get_or vs 1 w).items c.deref.result.now c.deref-in-Some.result.now (get_or c.deref-2.result.now 0 0) (get_or c.deref-in-Some-2.result.now 1 0) fits two
     c.deref.ensures.0 c.deref-in-Some.ensures.0 (ap (λ t. get_or t 0 0) (c.deref-2.ensures.0 ∙ sym tables)) (ap (λ t. get_or t 1 0) (c.deref-in-Some-2.ensures.0 ∙ sym tables))
     ∙ ap (λ o. table_claims (inputs_of e (option_copied o)) l.areas l.tables) (sym c.in-Some.is) in
     subst (λ list. Makes c.args.block.now c.write_table-in-Some.new.block list c.write_table-in-Some.result) claims

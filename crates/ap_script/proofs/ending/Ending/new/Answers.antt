@@ -7,13 +7,13 @@ use Rattle.ap_script.proofs.ending.Ending.new.Goals as goal
 
 pub push_spaces-requires-clause-short : goal.push_spaces-requires-clause-short
 push_spaces-requires-clause-short c =
-    ending-short c.args.job.now.options.systems (job_inputs c.args.job.now) c.args.lay.now c.lay.inside.body_end c.push_script-places.new.out.items c.requires.fits (ap (λ l. l.body_end) (sym c.lay.view_is))
-    (script-behind c.args.job.now.options.systems (job_inputs c.args.job.now) c.args.lay.now c.args.number (c.lay.inside.mach_at / 8) (c.lay.inside.mach_len / 8) c.machine_header-x64.result c.machine_header-a64.result _ _ _
+    ending-short c.args.job.now.options (job_inputs c.args.job.now) c.args.lay.now c.lay.inside.body_end c.push_script-places.new.out.items c.requires.fits (ap (λ l. l.body_end) (sym c.lay.view_is))
+    (script-behind c.args.job.now.options (job_inputs c.args.job.now) c.args.lay.now c.args.number (c.lay.inside.mach_at / 8) (c.lay.inside.mach_len / 8) c.machine_header-x64.result c.machine_header-a64.result _ _ _
     c.requires.number c.machine_header-x64.ensures c.machine_header-a64.ensures (ap (λ l. l.mach_at / 8) c.lay.view_is) (ap (λ l. l.mach_len / 8) c.lay.view_is) c.new-text.ensures c.push_closing.ensures.items c.push_script-places.ensures.items)
 
 pub overflow_add-result : goal.overflow_add-result
 overflow_add-result c =
-    let room = place-room c.args.job.now.options.systems (job_inputs c.args.job.now) c.args.lay.now X64 c.requires.fits in
+    let room = place-room c.args.job.now.options (job_inputs c.args.job.now) c.args.lay.now X64 c.requires.fits in
     let at = ap (λ l. l.body_end) (sym c.lay.view_is) in
     let lines = lines-are c.args.job.now.options.systems c.machine_header-x64.result (header_for X64 (job_inputs c.args.job.now) c.args.lay.now.tables) (c.lay.inside.mach_at / 8) (c.args.lay.now.mach_at / 8)
     (c.lay.inside.mach_len / 8) (c.args.lay.now.mach_len / 8) c.machine_header-x64.ensures (ap (λ l. l.mach_at / 8) c.lay.view_is) (ap (λ l. l.mach_len / 8) c.lay.view_is) in
@@ -24,7 +24,7 @@ overflow_add-result c =
 
 pub overflow_add-result-2 : goal.overflow_add-result-2
 overflow_add-result-2 c =
-    let room = place-room c.args.job.now.options.systems (job_inputs c.args.job.now) c.args.lay.now A64 c.requires.fits in
+    let room = place-room c.args.job.now.options (job_inputs c.args.job.now) c.args.lay.now A64 c.requires.fits in
     let at = ap (λ l. l.body_end) (sym c.lay.view_is) in
     let lines = lines-are c.args.job.now.options.systems c.machine_header-x64.result (header_for X64 (job_inputs c.args.job.now) c.args.lay.now.tables) (c.lay.inside.mach_at / 8) (c.args.lay.now.mach_at / 8)
     (c.lay.inside.mach_len / 8) (c.args.lay.now.mach_len / 8) c.machine_header-x64.ensures (ap (λ l. l.mach_at / 8) c.lay.view_is) (ap (λ l. l.mach_len / 8) c.lay.view_is) in
@@ -36,8 +36,8 @@ overflow_add-result-2 c =
 
 pub returns-clause-text : goal.returns-clause-text
 returns-clause-text c =
-    ending-made c.args.job.now.options.systems (job_inputs c.args.job.now) c.args.lay.now c.lay.inside.body_end c.push_script-places.new.out.items c.push_spaces.new.text.items c.requires.fits (ap (λ l. l.body_end) (sym c.lay.view_is))
-    (script-behind c.args.job.now.options.systems (job_inputs c.args.job.now) c.args.lay.now c.args.number (c.lay.inside.mach_at / 8) (c.lay.inside.mach_len / 8) c.machine_header-x64.result c.machine_header-a64.result _ _ _
+    ending-made c.args.job.now.options (job_inputs c.args.job.now) c.args.lay.now c.lay.inside.body_end c.push_script-places.new.out.items c.push_spaces.new.text.items c.requires.fits (ap (λ l. l.body_end) (sym c.lay.view_is))
+    (script-behind c.args.job.now.options (job_inputs c.args.job.now) c.args.lay.now c.args.number (c.lay.inside.mach_at / 8) (c.lay.inside.mach_len / 8) c.machine_header-x64.result c.machine_header-a64.result _ _ _
     c.requires.number c.machine_header-x64.ensures c.machine_header-a64.ensures (ap (λ l. l.mach_at / 8) c.lay.view_is) (ap (λ l. l.mach_len / 8) c.lay.view_is) c.new-text.ensures c.push_closing.ensures.items c.push_script-places.ensures.items)
     c.push_spaces.ensures
 
@@ -45,12 +45,12 @@ pub returns-clause-len : goal.returns-clause-len
 returns-clause-len c =
     let text = returns-clause-text c in
     let size = ap length text in
-    let long = ending-long c.args.job.now.options.systems (job_inputs c.args.job.now) c.args.lay.now c.requires.fits in
+    let long = ending-long c.args.job.now.options (job_inputs c.args.job.now) c.args.lay.now c.requires.fits in
     omega arith
 
 pub returns-clause-x64_room : goal.returns-clause-x64_room
 returns-clause-x64_room c =
-    let room = place-room c.args.job.now.options.systems (job_inputs c.args.job.now) c.args.lay.now X64 c.requires.fits in
+    let room = place-room c.args.job.now.options (job_inputs c.args.job.now) c.args.lay.now X64 c.requires.fits in
     let at = ap (λ l. l.body_end) (sym c.lay.view_is) in
     let lines = lines-are c.args.job.now.options.systems c.machine_header-x64.result (header_for X64 (job_inputs c.args.job.now) c.args.lay.now.tables) (c.lay.inside.mach_at / 8) (c.args.lay.now.mach_at / 8)
     (c.lay.inside.mach_len / 8) (c.args.lay.now.mach_len / 8) c.machine_header-x64.ensures (ap (λ l. l.mach_at / 8) c.lay.view_is) (ap (λ l. l.mach_len / 8) c.lay.view_is) in
@@ -61,7 +61,7 @@ returns-clause-x64_room c =
 
 pub returns-clause-a64_room : goal.returns-clause-a64_room
 returns-clause-a64_room c =
-    let room = place-room c.args.job.now.options.systems (job_inputs c.args.job.now) c.args.lay.now A64 c.requires.fits in
+    let room = place-room c.args.job.now.options (job_inputs c.args.job.now) c.args.lay.now A64 c.requires.fits in
     let at = ap (λ l. l.body_end) (sym c.lay.view_is) in
     let lines = lines-are c.args.job.now.options.systems c.machine_header-x64.result (header_for X64 (job_inputs c.args.job.now) c.args.lay.now.tables) (c.lay.inside.mach_at / 8) (c.args.lay.now.mach_at / 8)
     (c.lay.inside.mach_len / 8) (c.args.lay.now.mach_len / 8) c.machine_header-x64.ensures (ap (λ l. l.mach_at / 8) c.lay.view_is) (ap (λ l. l.mach_len / 8) c.lay.view_is) in
