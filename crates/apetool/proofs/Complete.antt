@@ -2,13 +2,14 @@
 use Rattle.std.proofs.Common.{◌≡◌, inl, inr, ℕ, List, Option, Some, None, Result, Ok, Err, refl, sym, ap, subst, ◌∙◌, arith}
 use Rattle.std.specs.FinMap as map
 use Rattle.ap_files.specs.Files.{FileMap, FileState, Rose}
+use Rattle.ap_check.specs.declared.options.Options.{Options}
 use Rattle.ap_check.specs.Rules.{first_fault_of}
 use Rattle.ap_check.specs.Both.{first_fault_of_both}
 use Rattle.ap_check.specs.declared.fault.Fault.{Fault}
 use Rattle.ap_check.proofs.Pairs.{first-breaks}
 use Rattle.ap_link.specs.FileAnswers.{HasSecond, AreUnread}
 use Rattle.ap_files.specs.Sinks.{SinkState}
-use Rattle.apetool.specs.Words.{LinkNames, names_in}
+use Rattle.apetool.specs.Words.{LinkNames, names_in, options_of}
 use Rattle.apetool.specs.Options.{View, view_in}
 use Rattle.apetool.specs.Formats.{text_in}
 use Rattle.apetool.specs.Shows.{Ends}
@@ -36,8 +37,8 @@ none_of : (o : Option Fault) → ((f : Fault) → o ≡ Some f → ⊥) → o �
 none_of None h = refl
 none_of (Some f) h = absurd (h f refl)
 
-holds_first : (a : List ℕ) (b : Option (List ℕ)) → first_fault_of_both a b ≡ None → first_fault_of 1 a ≡ None
-holds_first a b none = none_of (first_fault_of 1 a) (λ f e. not_some (sym none ∙ first-breaks a b f e))
+holds_first : (options : Options) (a : List ℕ) (b : Option (List ℕ)) → first_fault_of_both options a b ≡ None → first_fault_of 1 a ≡ None
+holds_first options a b none = none_of (first_fault_of 1 a) (λ f e. not_some (sym none ∙ first-breaks options a b f e))
 
 -- where files are told, there is a second input, or none is named
 some_second : (P : Option (List ℕ) → Type 0) (kept : Option FileMap) (second : Option (List ℕ)) (m : FileMap) → HasSecond kept second P → kept ≡ Some m → (b : Option (List ℕ)) × P b
@@ -62,7 +63,7 @@ first_by : (old new : FileState) (names : LinkNames) (cause : Cause) (m : FileMa
     → old.kept ≡ Some m → map.get m names.first ≡ Some a → RefusedFor (first_fault_of 1 a) cause
 first_by old new names Done m a h r w k g =
     let linked = some_second _ old.kept names.second m (told_of old.kept names.first m a h.1.linked k g) k in
-    not_refused (first_fault_of 1 a) Done (holds_first a linked.0 linked.1.0)
+    not_refused (first_fault_of 1 a) Done (holds_first (options_of names) a linked.0 linked.1.0)
 first_by old new names (Refused f) m a h r w k g = elim (told_of old.kept names.first m a h.1 k g) [
   | inl is ↦ is_refused (first_fault_of 1 a) f is
   | inr second ↦ not_refused (first_fault_of 1 a) (Refused f) second.0
@@ -103,17 +104,17 @@ both_unread old new first (Some second) m a b h r k g s = elim h [
   | inr unread ↦ unread_by old new second m s.0 unread.0 r k s.2
 ]
 
-both_refused : (a : List ℕ) (b : Option (List ℕ)) (f : Fault) → first_fault_of_both a b ≡ Some f → BothComplete (Refused f) a b
-both_refused a b f some = (λ e. absurd (not_some (sym e ∙ some)), is_refused (first_fault_of_both a b) f some)
+both_refused : (options : Options) (a : List ℕ) (b : Option (List ℕ)) (f : Fault) → first_fault_of_both options a b ≡ Some f → BothComplete options (Refused f) a b
+both_refused options a b f some = (λ e. absurd (not_some (sym e ∙ some)), is_refused (first_fault_of_both options a b) f some)
 
 both_by : (old new : FileState) (names : LinkNames) (cause : Cause) (m : FileMap) (a : List ℕ) (b : Option (List ℕ)) → LinkEnds old new names cause → Stands old.read_faults new.read_faults → Stands old.write_faults new.write_faults
-    → old.kept ≡ Some m → map.get m names.first ≡ Some a → SecondIn m names.second b → BothComplete cause a b
+    → old.kept ≡ Some m → map.get m names.first ≡ Some a → SecondIn m names.second b → BothComplete (options_of names) cause a b
 both_by old new names Done m a b h r w k g s =
     let linked = told_second _ old.kept names.second m b (told_of old.kept names.first m a h.1.linked k g) k s in
-    (λ e. inl refl, not_refused (first_fault_of_both a b) Done linked.0)
+    (λ e. inl refl, not_refused (first_fault_of_both (options_of names) a b) Done linked.0)
 both_by old new names (Refused f) m a b h r w k g s = elim (told_of old.kept names.first m a h.1 k g) [
-  | inl is ↦ both_refused a b f (first-breaks a b f is)
-  | inr second ↦ both_refused a b f (told_second _ old.kept names.second m b second.1 k s)
+  | inl is ↦ both_refused (options_of names) a b f (first-breaks (options_of names) a b f is)
+  | inr second ↦ both_refused (options_of names) a b f (told_second _ old.kept names.second m b second.1 k s)
 ]
 both_by old new names (Unread f) m a b h r w k g s = absurd h
 both_by old new names Usage m a b h r w k g s = absurd h
@@ -128,7 +129,7 @@ both_by old new names NoMemory m a b h r w k g s = (λ e. inr refl, λ f e. inr 
 link_by : (old new : FileState) (names : LinkNames) (cause : Cause) → LinkEnds old new names cause → LinkComplete old new names cause
 link_by old new names cause h = λ r w m a k g. (
   first_by old new names cause m a h r w k g,
-  for_second (BothComplete cause a) old.kept names.second m k (λ b s. both_by old new names cause m a b h r w k g s),
+  for_second (BothComplete (options_of names) cause a) old.kept names.second m k (λ b s. both_by old new names cause m a b h r w k g s),
 )
 
 ok_err : {T : Type 0} {t : T} {f : ReadingFault} {r : Result T ReadingFault} → r ≡ Ok t → r ≡ Err f → ⊥

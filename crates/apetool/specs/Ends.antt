@@ -2,13 +2,14 @@
 use Rattle.std.specs.Prelude.{◌≡◌, ℕ, ◌^◌, ◌-◌, ◌<◌, ◌⊎◌, List, Result, Ok, Err, Some, None, Option}
 use Rattle.ap_files.specs.Files.{FileMap, FileState, ForFile}
 use Rattle.ap_check.specs.declared.fault.Fault.{Fault}
+use Rattle.ap_check.specs.declared.options.Options.{Options}
 use Rattle.ap_check.specs.Rules.{first_fault_of}
 use Rattle.ap_check.specs.Both.{first_fault_of_both}
 use Rattle.ap_link.specs.declared.end.LinkEnd.{LinkEnd}
 use Rattle.ap_link.specs.declared.end.LinkEnd.TheVariants as end
 use Rattle.ap_link.specs.FileAnswers.{LinksFiles}
 use Rattle.ap_files.specs.Sinks.{SinkState}
-use Rattle.apetool.specs.Words.{LinkNames, names_in}
+use Rattle.apetool.specs.Words.{LinkNames, names_in, options_of}
 use Rattle.apetool.specs.Options.{View, view_in}
 use Rattle.apetool.specs.Formats.{text_in}
 use Rattle.apetool.specs.Shows.{Ends}
@@ -30,7 +31,7 @@ status_of NoMemory = 5
 
 -- how a link of files answers, by what its words name
 abbrev pub LinkAnswered : FileState → FileState → LinkNames → Result ℕ LinkEnd → Type 0
-LinkAnswered old new names answer = LinksFiles names.systems old new names.first names.second names.out answer
+LinkAnswered old new names answer = LinksFiles (options_of names) old new names.first names.second names.out answer
 
 -- how a link ends, by its cause
 abbrev pub LinkEnds : FileState → FileState → LinkNames → Cause → Type 0
@@ -75,15 +76,15 @@ abbrev pub DoneWithout : Option Fault → Cause → Type 0
 DoneWithout first cause = first ≡ None → (cause ≡ Done) ⊎ (cause ≡ NoMemory)
 
 -- what is said of a link of these inputs that meets no fault of the files
-abbrev pub BothComplete : Cause → List ℕ → Option (List ℕ) → Type 0
-BothComplete cause a b = DoneWithout (first_fault_of_both a b) cause × RefusedFor (first_fault_of_both a b) cause
+abbrev pub BothComplete : Options → Cause → List ℕ → Option (List ℕ) → Type 0
+BothComplete options cause a b = DoneWithout (first_fault_of_both options a b) cause × RefusedFor (first_fault_of_both options a b) cause
 
 -- Where the inputs are told and no read or write failed, a link is done exactly where all rules hold, and else refused for the
 -- first that doesn't, unless memory runs out. Where input 1 breaks a rule, input 2 needn't be there.
 abbrev pub LinkComplete : FileState → FileState → LinkNames → Cause → Type 0
 LinkComplete old new names cause =
     Stands old.read_faults new.read_faults → Stands old.write_faults new.write_faults → ForFile old.kept names.first (λ a.
-    RefusedFor (first_fault_of 1 a) cause × ForSecond old.kept names.second (BothComplete cause a))
+    RefusedFor (first_fault_of 1 a) cause × ForSecond old.kept names.second (BothComplete (options_of names) cause a))
 
 -- an answer comes exactly where a file is refused, and the work is done where it isn't and no print failed
 abbrev pub AnswersBy : {T : Type 0} → SinkState → SinkState → Cause → Result T ReadingFault → Type 0

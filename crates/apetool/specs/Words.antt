@@ -1,14 +1,15 @@
 -- The words of a link, `link --systems LIST -o OUT IN [IN]`: both options, each once with its value behind it, and one or two
 -- inputs, which stand together. Options and inputs stand in any order.
-use Rattle.std.specs.Prelude.{ℕ, nat_lt, nat_eq, List, [], ◌∷◌, length, map, if◌then◌else◌, ◌&&◌, ◌||◌, not, is_some, Bool, true, codes, Option, Some, None, String}
+use Rattle.std.specs.Prelude.{ℕ, nat_lt, nat_eq, false, List, [], ◌∷◌, length, map, if◌then◌else◌, ◌&&◌, ◌||◌, not, is_some, Bool, true, codes, Option, Some, None, String}
 use Rattle.std.specs.Option.{option_map, option_and_then, option_copied}
 use Rattle.std.specs.List.{starts_with}
 use Rattle.std.specs.Str.{bytes_eq}
 use Rattle.std.specs.String.{string_bytes}
 use Rattle.std.specs.declared.alloc.Global.{Global}
 use Rattle.ap_check.specs.declared.options.Systems.{Systems}
-use Rattle.apetool.specs.declared.words.Link.{Link}
-use Rattle.apetool.specs.declared.words.Parts.{Parts}
+use Rattle.ap_check.specs.declared.options.Options.{Options}
+use Rattle.apetool.specs.declared.link.Link.{Link}
+use Rattle.apetool.specs.declared.link.Parts.{Parts}
 use Rattle.apetool.specs.Systems.{systems_in}
 
 -- what a link is to do: the systems that are chosen, the file to make, and one or two inputs
@@ -17,6 +18,10 @@ pub record LinkNames : Type 0 where
   pub out : List ℕ
   pub first : List ℕ
   pub second : Option (List ℕ)
+
+-- the options of a link
+abbrev pub options_of : LinkNames → Options
+options_of n = record { systems = n.systems; debug = false }
 
 -- what some words of it say
 pub record LinkParts : Type 0 where

@@ -6,6 +6,7 @@ mod end;
 mod fetch;
 mod format;
 mod line;
+mod link;
 mod options;
 mod planned;
 mod print;

@@ -12,9 +12,10 @@ ghost use Rattle.apetool.specs.Prints.{Reports};
 
 use crate::dump::dump;
 use crate::end::{Cause, End, end_by};
+use crate::link::Link;
 use crate::options::{View, read_view};
 use crate::show::show;
-use crate::words::{Link, read_link};
+use crate::words::read_link;
 use ap_check::Options;
 use ap_claims::Block;
 use ap_files::{Files, Sink};

@@ -1,5 +1,5 @@
 // The systems that a list of names chooses.
-ghost use Rattle.std.specs.Prelude.{◌≡◌};
+ghost use Rattle.std.specs.Prelude.{◌≡◌, ◌<◌, IfSome};
 ghost use Rattle.apetool.specs.Systems as spec;
 
 use ap_check::Systems;
@@ -9,7 +9,8 @@ use bitflags::Flags;
 /// at least, and a name may stand more than once.
 #[tactic(auto, unfolding(crate::specs::Systems::systems_in))]
 pub fn systems_in(list: &str) -> Option<Systems>
-    ensures { result ≡ spec.systems_in list.now }
+    ensures systems { result ≡ spec.systems_in list.now }
+    ensures built { IfSome result (λ s. s.0 < 8) }
 {
     let Some((name, rest)) = list.split_once(',') else {
         return system_named(list);
@@ -20,7 +21,8 @@ pub fn systems_in(list: &str) -> Option<Systems>
 }
 
 fn system_named(name: &str) -> Option<Systems>
-    ensures { result ≡ spec.system_named name.now }
+    ensures system { result ≡ spec.system_named name.now }
+    ensures built { IfSome result (λ s. s.0 < 8) }
 {
     if name == "linux" {
         Some(Systems::LINUX)

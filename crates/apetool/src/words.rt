@@ -1,33 +1,12 @@
 // The words of a link: its options, each with its value behind it, and its inputs.
-ghost use Rattle.std.specs.Prelude.{◌≡◌, ◌≢◌, IfSome};
+ghost use Rattle.std.specs.Prelude.{◌≡◌, ◌≢◌, ◌<◌, IfSome};
 ghost use Rattle.std.specs.Option.{option_map, option_copied};
 ghost use Rattle.apetool.specs.Words as spec;
 ghost use Rattle.apetool.specs.Words.{link_names, link_parts, names_in, names_of, names_with, parts_in, texts_of};
 
+use crate::link::{Link, Parts};
 use crate::systems::systems_in;
 use ap_check::Systems;
-
-/// What a link is to do.
-#[derive(Clone, Copy)]
-pub struct Link<'a> {
-    /// The systems that the file is to run on.
-    pub systems: Systems,
-    /// The file to make.
-    pub out: &'a str,
-    /// The program to link.
-    pub first: &'a str,
-    /// The program for another machine, if there is one.
-    pub second: Option<&'a str>,
-}
-
-/// What some words of a link say.
-#[derive(Clone, Copy)]
-pub struct Parts<'a> {
-    pub systems: Option<Systems>,
-    pub out: Option<&'a str>,
-    pub first: Option<&'a str>,
-    pub second: Option<&'a str>,
-}
 
 /// The link in the words `link --systems LIST -o OUT IN [IN]`; any other words are none. LIST is names joined by commas, each
 /// of them `linux`, `freebsd` or `netbsd`. Options and inputs stand in any order, but two inputs stand together. OUT is none
@@ -72,6 +51,7 @@ fn link_with<'a>(
     first: &'a str,
     second: Option<&'a str>,
 ) -> Option<Link<'a>>
+    requires { systems.0 < 8 }
     ensures first { IfSome result (λ l. l.first.now ≢ l.out.now) }
     ensures second { IfSome result (λ l. IfSome (option_copied l.second) (λ n. n ≢ l.out.now)) }
     ensures names { option_map link_names result ≡ names_with systems out.now first.now (option_copied second.entry) }
@@ -153,7 +133,9 @@ fn with_systems<'a>(parts: Parts<'a>, value: &str) -> Option<Parts<'a>>
     let systems = systems_in(value)?;
     Some(Parts {
         systems: Some(systems),
-        ..parts
+        out: parts.out,
+        first: parts.first,
+        second: parts.second,
     })
 }
 
@@ -164,8 +146,10 @@ fn with_out<'a>(parts: Parts<'a>, value: &'a str) -> Option<Parts<'a>>
         return None;
     }
     Some(Parts {
+        systems: parts.systems,
         out: Some(value),
-        ..parts
+        first: parts.first,
+        second: parts.second,
     })
 }
 
@@ -177,9 +161,10 @@ fn with_inputs<'a>(parts: Parts<'a>, first: &'a str, second: Option<&'a str>) ->
         return None;
     }
     Some(Parts {
+        systems: parts.systems,
+        out: parts.out,
         first: Some(first),
         second,
-        ..parts
     })
 }
 

@@ -1,0 +1,29 @@
+// What the words of a link name.
+ghost use Rattle.std.specs.Prelude.{◌<◌};
+ghost use Rattle.std.specs.Option.{ForSome};
+
+use ap_check::Systems;
+
+/// What a link is to do.
+#[derive(Clone, Copy)]
+pub struct Link<'a> {
+    /// The systems that the file is to run on.
+    pub systems: Systems,
+    /// The file to make.
+    pub out: &'a str,
+    /// The program to link.
+    pub first: &'a str,
+    /// The program for another machine, if there is one.
+    pub second: Option<&'a str>,
+    pub ghost built: { systems.0 < 8 },
+}
+
+/// What some words of a link say.
+#[derive(Clone, Copy)]
+pub struct Parts<'a> {
+    pub systems: Option<Systems>,
+    pub out: Option<&'a str>,
+    pub first: Option<&'a str>,
+    pub second: Option<&'a str>,
+    pub ghost built: { ForSome systems (λ s. s.0 < 8) },
+}
