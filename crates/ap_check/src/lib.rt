@@ -26,6 +26,7 @@ mod symbols;
 mod table;
 mod tls;
 
+pub use ap_elf::Machine;
 pub use both::check_all;
 pub use check::check_input;
 pub use end::CheckEnd;
@@ -34,7 +35,6 @@ pub use file::check_input_in;
 pub use input::Input;
 pub use job::Job;
 pub use load::{Load, taken_loads};
-pub use ap_elf::Machine;
 pub use options::{Options, Systems};
 pub use size::check_size;
 pub use symbols::Symbols;

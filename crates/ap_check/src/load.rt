@@ -5,8 +5,7 @@ ghost use Rattle.ap_check.specs.Inputs as spec;
 ghost use Rattle.ap_check.specs.Inputs.{load_of};
 
 use ap_elf::Entry;
-use ap_fields::MOST_LOADS;
-use ap_fields::Perms;
+use ap_fields::{MOST_LOADS, Perms};
 use arrayvec::ArrayVec;
 use bitflags::Flags;
 

@@ -11,13 +11,12 @@ use crate::fault::Fault;
 use crate::input::Input;
 use crate::load::{Load, taken_loads};
 use crate::loads::check_loads;
-use ap_elf::Machine;
 use crate::notes::notes;
 use crate::span::{check_entry, check_span};
 use crate::stack::stack;
 use crate::symbols::Symbols;
 use crate::tls::check_tls;
-use ap_elf::{Entry, Header};
+use ap_elf::{Entry, Header, Machine};
 use ap_fields::MOST_LOADS;
 use arrayvec::ArrayVec;
 
