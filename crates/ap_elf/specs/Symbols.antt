@@ -1,10 +1,12 @@
 -- The symbols of an ELF file: which section has them and which has their names, what may be wrong with these, and the
 -- value of a name (System V gABI, "Sections" and "Symbol Table").
-use Rattle.std.specs.Prelude.{ℕ, zero, suc, ◌+◌, ◌*◌, ◌/◌, ◌%◌, ◌≤◌, ◌==◌, ◌&&◌, ◌≡◌, not, nat_le, nat_lt, if◌then◌else◌, Bool, true, false, List, [], ◌∷◌, ◌++◌, length, take, drop, find, Option, Some, None}
+use Rattle.std.specs.Prelude.{ℕ, zero, suc, ◌+◌, ◌*◌, ◌/◌, ◌%◌, ◌^◌, ◌≤◌, ◌==◌, ◌&&◌, ◌≡◌, not, nat_le, nat_lt, if◌then◌else◌, Bool, true, false, List, [], ◌∷◌, ◌++◌, length, take, drop, find, Option, Some, None}
 use Rattle.std.specs.Option.{option_map}
 use Rattle.std.specs.Str.{bytes_eq}
 use Rattle.ap_fields.specs.Fields.{number_at}
 use Rattle.ap_fields.specs.FirstFault.{Rules, first_fault}
+use Rattle.ap_files.specs.Files.{FileMap}
+use Rattle.ap_files.specs.Reads.{HasFile}
 use Rattle.ap_elf.specs.declared.types.Header.{Header}
 use Rattle.ap_elf.specs.declared.types.Section.{Section}
 use Rattle.ap_elf.specs.declared.types.Symbol.{Symbol}
@@ -155,6 +157,11 @@ Stands strings text = (at : ℕ) × (stands_at strings text at ≡ true)
 pub record EndBelow (size : ℕ) (t : Tables) : Type 0 where
   pub symbols : t.at + 24 * t.count ≤ size
   pub strings : t.strings + t.length ≤ size
+
+-- the tables lie in the file of a name, where it is told, and every place in them is a number of 63 bits
+pub record HasTables (kept : Option FileMap) (name : List ℕ) (t : Tables) : Type 0 where
+  pub small : EndBelow (2 ^ 63) t
+  pub told : HasFile kept name (λ b. EndBelow (length b) t)
 
 abbrev pub FoundBelow : ℕ → Located → Type 0
 FoundBelow size (Part p) = Unit {0}

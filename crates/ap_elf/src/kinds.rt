@@ -4,6 +4,7 @@ ghost use Rattle.ap_elf.specs.Fields as fields;
 ghost use Rattle.ap_elf.specs.Fields.{loads_in};
 ghost use Rattle.ap_elf.specs.ElfReading as reading;
 
+use crate::constants::{MOST_PHDRS, PT_DYNAMIC, PT_INTERP, PT_LOAD};
 use crate::types::Entry;
 use arrayvec::ArrayVec;
 
@@ -11,12 +12,12 @@ use arrayvec::ArrayVec;
 pub fn is_dynamic(p: &Entry) -> bool
     ensures { result ≡ reading.is_dynamic p.now }
 {
-    p.kind == 3 || p.kind == 2
+    p.kind == PT_INTERP || p.kind == PT_DYNAMIC
 }
 
-/// The loads among program headers, in their order: the entries of type 1 (`PT_LOAD`) that have bytes in memory.
-pub fn loads(entries: &[Entry]) -> ArrayVec<Entry, 64>
-    requires { length entries.now ≤ 64 }
+/// The loads among program headers, in their order: the entries of type `PT_LOAD` that have bytes in memory.
+pub fn loads(entries: &[Entry]) -> ArrayVec<Entry, MOST_PHDRS>
+    requires { length entries.now ≤ MOST_PHDRS }
     ensures { result.items ≡ loads_in entries.now }
 {
     let mut found = ArrayVec::new();
@@ -31,5 +32,5 @@ pub fn loads(entries: &[Entry]) -> ArrayVec<Entry, 64>
 fn is_load(p: &Entry) -> bool
     ensures { result ≡ fields.is_load p.now }
 {
-    p.kind == 1 && p.memsz != 0
+    p.kind == PT_LOAD && p.memsz != 0
 }

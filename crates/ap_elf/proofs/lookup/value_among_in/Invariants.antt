@@ -1,7 +1,7 @@
 use Rattle.std.proofs.Common.{◌≡◌, ◌*◌, ◌-◌}
 use Rattle.ap_files.specs.Files.{ForFile}
 use Rattle.ap_elf.specs.Symbols.{value_among, strings_of, symbols_from}
-use Rattle.ap_elf.proofs.lookup_file.value_among_in.Given as goal
+use Rattle.ap_elf.proofs.lookup.value_among_in.Given as goal
 
 abbrev pub invariant-loop-i : goal.invariant-loop-i
 invariant-loop-i g l = record {

@@ -1,7 +1,7 @@
 use Rattle.std.proofs.Common.{◌∙◌, ap, sym}
 use Rattle.ap_files.specs.Files.{FileState}
 use Rattle.ap_elf.proofs.Values.{value_of-nowhere}
-use Rattle.ap_elf.proofs.lookup_file.symbol_in.Goals as goal
+use Rattle.ap_elf.proofs.lookup.symbol_in.Goals as goal
 
 pub value_in-requires-clause-seen : goal.value_in-requires-clause-seen
 value_in-requires-clause-seen g c =

@@ -2,7 +2,7 @@ use Rattle.std.proofs.Common.{◌≤◌, ◌+◌, ◌∙◌, refl, arith, ap}
 use Rattle.ap_files.specs.Files.{FileState}
 use Rattle.ap_elf.specs.Symbols.{strings_of}
 use Rattle.ap_elf.proofs.Values.{value-start, block-next, block-found}
-use Rattle.ap_elf.proofs.lookup_file.value_in.Goals as goal
+use Rattle.ap_elf.proofs.lookup.value_in.Goals as goal
 
 pub loop-done-init : goal.loop-done-init
 loop-done-init g c = record {

@@ -4,7 +4,7 @@ use Rattle.ap_elf.specs.declared.types.Symbol.{Symbol}
 use Rattle.ap_elf.specs.Symbols.{strings_of, symbol_at, symbols_from, is_named}
 use Rattle.ap_elf.proofs.SymbolSteps.{symbol-step-front}
 use Rattle.ap_elf.proofs.Values.{value-here, value-next}
-use Rattle.ap_elf.proofs.lookup_file.value_among_in.Goals as goal
+use Rattle.ap_elf.proofs.lookup.value_among_in.Goals as goal
 
 pub returns-in-Ok-true : goal.returns-in-Ok-true
 returns-in-Ok-true g c =

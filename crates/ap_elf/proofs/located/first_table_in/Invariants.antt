@@ -2,7 +2,7 @@ use Rattle.std.proofs.Common.{◌≡◌, ◌+◌, ◌*◌, ◌-◌}
 use Rattle.std.specs.Prelude.{find}
 use Rattle.ap_files.specs.Files.{ForFile}
 use Rattle.ap_elf.specs.Symbols.{symbol_table, sections_from, is_symbol_table}
-use Rattle.ap_elf.proofs.located_file.first_table_in.Given as goal
+use Rattle.ap_elf.proofs.located.first_table_in.Given as goal
 
 abbrev pub invariant-loop-i : goal.invariant-loop-i
 invariant-loop-i g l = record {

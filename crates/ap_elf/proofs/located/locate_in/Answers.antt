@@ -2,8 +2,8 @@ use Rattle.std.proofs.Common.{◌≡◌, ◌∙◌, Some, sym}
 use Rattle.ap_fields.specs.FirstFault.{first_fault}
 use Rattle.ap_elf.specs.Symbols.{located, found_unless, tables_rules, tables_of}
 use Rattle.ap_elf.proofs.SymbolSteps.{located-found}
-use Rattle.ap_elf.proofs.Reading.{reads-after}
-use Rattle.ap_elf.proofs.located_file.locate_in.Goals as goal
+use Rattle.ap_files.proofs.ReadLemmas.{reads-after}
+use Rattle.ap_elf.proofs.located.locate_in.Goals as goal
 
 pub returns-in-Ok-Some-clause-read : goal.returns-in-Ok-Some-clause-read
 returns-in-Ok-Some-clause-read g c =
