@@ -5,6 +5,7 @@ ghost use Rattle.ap_check.specs.Inputs as spec;
 ghost use Rattle.ap_check.specs.Inputs.{load_of};
 
 use ap_elf::Entry;
+use ap_elf::constants::{PF_R, PF_W, PF_X};
 use ap_fields::{MOST_LOADS, Perms};
 use arrayvec::ArrayVec;
 use bitflags::Flags;
@@ -45,6 +46,6 @@ fn load_from(p: &Entry) -> Load
         vaddr: p.vaddr,
         filesz: p.filesz,
         memsz: p.memsz,
-        perms: Perms::from_bits_retain((p.flags & 7) as u8),
+        perms: Perms::from_bits_retain((p.flags & (PF_R | PF_W | PF_X)) as u8),
     }
 }

@@ -7,6 +7,7 @@ ghost use Rattle.ap_check.specs.Inputs.{load_of, last_stop, bytes_of_loads};
 
 use crate::fault::{Fault, broken};
 use ap_elf::Entry;
+use ap_elf::constants::{ADDRESS_TOP, PF_R, PF_W, PF_X};
 use ap_fields::{ceil_to, floor_to};
 
 /// How far loads reach, and how many bytes of the file they have.
@@ -51,10 +52,10 @@ fn check_load(p: &Entry, k: u16, low: u64, size: u64, granule: u64, number: u8) 
     if p.filesz != 0 && (p.filesz > size || p.offset > size - p.filesz) {
         return Err(broken(number, 15, k, p.offset));
     }
-    if p.vaddr < 65536 || p.memsz > 1 << 47 || p.vaddr > (1 << 47) - p.memsz {
+    if p.vaddr < 65536 || p.memsz > ADDRESS_TOP || p.vaddr > ADDRESS_TOP - p.memsz {
         return Err(broken(number, 16, k, p.vaddr));
     }
-    if p.flags & 4 == 0 || p.flags & 3 == 3 {
+    if p.flags & PF_R == 0 || p.flags & (PF_W | PF_X) == PF_W | PF_X {
         return Err(broken(number, 17, k, p.flags as u64));
     }
     if floor_to(p.vaddr, granule) < low {

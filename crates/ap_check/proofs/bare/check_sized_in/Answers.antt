@@ -1,7 +1,7 @@
 use Rattle.std.proofs.Common.{◌∙◌, ap, refl}
 use Rattle.ap_files.specs.Files.{FileState}
 use Rattle.ap_check.proofs.Told.{size_refused, header_refused, table_refused, table_taken, sized_still}
-use Rattle.ap_check.proofs.bare_file.check_sized_in.Goals as goal
+use Rattle.ap_check.proofs.bare.check_sized_in.Goals as goal
 
 pub returns-in-Err-clause-ends : goal.returns-in-Err-clause-ends
 returns-in-Err-clause-ends g c = (

@@ -1,6 +1,6 @@
 use Rattle.std.proofs.Common.{◌∙◌}
 use Rattle.ap_check.proofs.Prefixes.{no-symbols-at, not-true}
-use Rattle.ap_check.proofs.named_file.symbols_in.Goals as goal
+use Rattle.ap_check.proofs.named.symbols_in.Goals as goal
 
 pub returns-in-Ok-false : goal.returns-in-Ok-false
 returns-in-Ok-false g c = (

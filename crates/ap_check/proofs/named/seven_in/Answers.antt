@@ -1,7 +1,7 @@
 use Rattle.std.proofs.Common.{◌∙◌, ap}
 use Rattle.ap_files.specs.Files.{FileState}
 use Rattle.ap_check.specs.Inputs.{symbols_at}
-use Rattle.ap_check.proofs.named_file.seven_in.Goals as goal
+use Rattle.ap_check.proofs.named.seven_in.Goals as goal
 
 pub returns : goal.returns
 unfolding symbols_at
