@@ -10,6 +10,7 @@ use Rattle.ap_elf.specs.declared.types.Tables.{Tables}
 use Rattle.ap_elf.specs.declared.types.Located.{Located}
 use Rattle.ap_elf.specs.declared.types.Located.TheVariants.{Part, Missing, At}
 use Rattle.ap_elf.specs.Fields.{header_of, entries_of, loads_in}
+use Rattle.ap_elf.specs.InputCell.{permissions_of}
 use Rattle.ap_elf.specs.Symbols.{located, value_of}
 use Rattle.ap_elf.specs.declared.machine.Machine.{Machine}
 use Rattle.ap_elf.specs.declared.machine.Machine.TheVariants.{X64, A64}
@@ -122,7 +123,7 @@ pub record Meets (i : Taken) : Type 0 where
 
 -- what is taken of a load
 abbrev pub load_of : Entry → Load
-load_of p = record { offset = p.offset; vaddr = p.vaddr; filesz = p.filesz; memsz = p.memsz; perms = record { 0 = bit_and p.flags (PF_R + PF_W + PF_X) } }
+load_of p = record { offset = p.offset; vaddr = p.vaddr; filesz = p.filesz; memsz = p.memsz; perms = record { 0 = permissions_of p } }
 
 -- the first that passes a test
 abbrev pub first_of : (Entry → Bool) → List Entry → Option Entry

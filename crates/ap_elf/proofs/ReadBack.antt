@@ -116,10 +116,6 @@ tables-read_back entries fits = record {
   back = λ w at held. entries_from-holds w at entries fits held;
 }
 
--- whatever stands behind a header, in front of a program header and behind it
+-- whatever stands behind a header
 pub header_of-bytes : (h : Header) (rest : List ℕ) → HeaderFits h → header_of (header_bytes h ++ rest) ≡ h
 header_of-bytes h rest fits = header_of-holds (header_bytes h ++ rest) h fits (holds-part [] (header_bytes h) rest 0 refl)
-
-pub entry_at-bytes : (front rest : List ℕ) (p : Entry) → EntryFits p → entry_at (front ++ (entry_bytes p ++ rest)) (length front) ≡ p
-entry_at-bytes front rest p fits =
-    entry_at-holds (front ++ (entry_bytes p ++ rest)) (length front) p fits (holds-part front (entry_bytes p) rest (length front) refl)

@@ -5,7 +5,7 @@
 pub mod constants; // the numbers of the format
 mod types; // the structures, field by field
 mod machine; // the machines
-mod kinds; // the kinds of program headers
+mod kinds; // the kinds of program headers, and what loads say
 mod fault; // why a file has no reading
 mod read; // the structures from bytes
 mod write; // the structures as bytes
@@ -20,7 +20,7 @@ mod slice; // the symbols of bytes in memory
 
 pub use fault::{ElfCause, ElfFault};
 pub use file::{entries_in, header_in};
-pub use kinds::{is_dynamic, loads};
+pub use kinds::{is_dynamic, load_end, load_perms, loads};
 pub use located::locate_in;
 pub use lookup::symbol_in;
 pub use machine::Machine;

@@ -1,7 +1,7 @@
 -- Rounding to a granule.
 use Rattle.std.proofs.Common.{inl, inr, ◌≡◌, ℕ, ◌+◌, ◌*◌, ◌<◌, ◌≤◌, ◌-◌, ◌/◌, ◌%◌, refl, ap, ◌∙◌, arith}
 use Rattle.std.proofs.lemmas.Nat.{div-add-mod', div-mul-add, pow_pos}
-use Rattle.ap_fields.specs.Granules.{IsPowerOfTwo, IsGranule, floor_of, ceil_of}
+use Rattle.ap_fields.specs.Granules.{IsPowerOfTwo, IsGranule, ceil_of}
 
 -- the granules of the two machines
 pub power-4096 : IsPowerOfTwo 4096
@@ -22,12 +22,12 @@ power_pos g (k, e) = rw e (pow_pos k)
 pub granule_pos : (g : ℕ) → IsGranule g → 0 < g
 granule_pos g is = power_pos g (granule_power g is)
 
--- rounded down, a number is no greater, and rounded up, no less
-pub floor_of-most : (a g : ℕ) → floor_of a g ≤ a
-floor_of-most a g = let whole = div-add-mod' a g in omega arith
-
-pub ceil_of-least : (a g : ℕ) → 0 < g → a ≤ ceil_of a g
-ceil_of-least a g pos = let whole = div-add-mod' (a + g - 1) g in omega arith
+-- rounded up, a number is no less
+pub ceil_of-least : (a g : ℕ) → IsGranule g → a ≤ ceil_of a g
+ceil_of-least a g is =
+    let pos = granule_pos g is in
+    let whole = div-add-mod' (a + g - 1) g in
+    omega arith
 
 -- a multiple is rounded up to itself
 pub ceil_of-multiple : (a g : ℕ) → 0 < g → a % g ≡ 0 → ceil_of a g ≡ a

@@ -1,6 +1,6 @@
 -- Files that grow.
-use Rattle.std.proofs.Common.{◌≡◌, ◌≢◌, ℕ, ◌+◌, ◌-◌, ◌≤◌, List, [], ◌++◌, length, take, drop, cond, Option, Some, None, Ok, refl, sym, ap, ◌∙◌, arith, length-drop, unwrap_or, append_assoc, append-nil}
-use Rattle.std.proofs.lemmas.List.{take_rest, take-take, drop-take, take-append-drop}
+use Rattle.std.proofs.Common.{◌≡◌, ◌≢◌, ℕ, ◌+◌, ◌-◌, ◌≤◌, List, [], ◌∷◌, ◌++◌, length, take, drop, cond, Option, Some, None, Ok, refl, sym, ap, ◌∙◌, arith, length-drop, unwrap_or, append_assoc, append-nil, zero, suc}
+use Rattle.std.proofs.lemmas.List.{take_rest, take-take, drop-take, take-append-drop, take_all, take-append-le}
 use Rattle.std.specs.FinMap as map
 use Rattle.ap_files.specs.Files.{FileMap, FileState, KeepsCounts, ForFile, IsPresent, HasRange, with_file, with_added, bytes_in, Adds}
 use Rattle.ap_files.proofs.NameMaps.{one, two, same_name, get-put, put-put, put-same, get_changed}
