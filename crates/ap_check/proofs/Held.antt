@@ -39,6 +39,13 @@ unfolding Pass
 filter-all t [] = tt
 filter-all t (p ∷ es) = filter-if t p (filter t es) (t p) refl (filter-all t es)
 
+-- what may be done with a load
+load-permitted : (n size g k low : ℕ) (p : Entry) → first_fault (load_rules n size g k low p) ≡ None → is_permitted (load_of p) ≡ true
+load-permitted n size g k low p h =
+    let read = and_assoc 4 p.flags 7 in
+    let apart = and_assoc 3 p.flags 7 in
+    grind (arith, nat_tests)
+
 -- one load
 load-held : (n size g k low : ℕ) (p : Entry) → is_load p ≡ true → first_fault (load_rules n size g k low p) ≡ None → IsLoad g size low (load_of p)
 load-held n size g k low p is h = record {
@@ -49,6 +56,7 @@ load-held n size g k low p is h = record {
   top = grind (arith, nat_tests);
   order = grind (arith, nat_tests);
   perms = let most = and_le_r p.flags 7 in omega arith;
+  readable = load-permitted n size g k low p h;
 }
 
 loads-held : (n size g k low : ℕ) (ps : List Entry) → Pass is_load ps → first_fault (loads_rules n size g k low ps) ≡ None → AreLoads g size low (map load_of ps)
@@ -57,20 +65,6 @@ loads-held n size g k low [] all h = tt
 loads-held n size g k low (p ∷ ps) all h =
     let parts = append-none (load_rules n size g k low p) (loads_rules n size g (k + 1) (ceil_of (p.vaddr + p.memsz) g) ps) h in
     (load-held n size g k low p all.0 parts.0, loads-held n size g (k + 1) (ceil_of (p.vaddr + p.memsz) g) ps all.1 parts.1)
-
--- what may be done with the loads
-load-permitted : (n size g k low : ℕ) (p : Entry) → first_fault (load_rules n size g k low p) ≡ None → is_permitted (load_of p) ≡ true
-load-permitted n size g k low p h =
-    let read = and_assoc 4 p.flags 7 in
-    let apart = and_assoc 3 p.flags 7 in
-    grind (arith, nat_tests)
-
-pub loads-permitted : (n size g k low : ℕ) (ps : List Entry) → first_fault (loads_rules n size g k low ps) ≡ None → All (λ q. is_permitted q ≡ true) (map load_of ps)
-loads-permitted n size g k low [] h = All-nil (λ q. is_permitted q ≡ true)
-loads-permitted n size g k low (p ∷ ps) h =
-    let stop = ceil_of (p.vaddr + p.memsz) g in
-    let parts = append-none (load_rules n size g k low p) (loads_rules n size g (k + 1) stop ps) h in
-    All-cons (λ q. is_permitted q ≡ true) (load_of p) (map load_of ps) (load-permitted n size g k low p parts.0) (loads-permitted n size g (k + 1) stop ps parts.1)
 
 pub size-held : (n size : ℕ) → first_fault (size_rules n size) ≡ None → (64 ≤ size) × (size ≤ 2 ^ 28)
 size-held n size h =

@@ -3,7 +3,7 @@ use Rattle.std.proofs.Common.{◌≡◌, ℕ, ◌+◌, Bool, true, false, cond, 
 use Rattle.std.specs.Prelude.{find, codes, IsTrue}
 use Rattle.std.specs.Option.{option_map}
 use Rattle.std.specs.Str.{bytes_eq}
-use Rattle.std.proofs.lemmas.Bool.{leb-true}
+use Rattle.std.proofs.lemmas.Bool.{leb-true, and_parts}
 use Rattle.std.proofs.lemmas.Bool.Decides.{nat_tests}
 use Rattle.std.proofs.lemmas.List.{take-take}
 use Rattle.std.proofs.lemmas.Slice.Eq.{bytes_eq-Decides}
@@ -12,14 +12,10 @@ use Rattle.ap_elf.specs.declared.types.Tables.{Tables}
 use Rattle.ap_elf.specs.Symbols.{stands_at, with_nul, is_named, value_of, strings_of, symbols_from, Stands}
 use Rattle.ap_check.specs.Inputs.{no_symbols, symbols_at}
 
-both : (a b : Bool) → (a && b) ≡ true → (a ≡ true) × (b ≡ true)
-both true b h = (refl, h)
-both false b h = absurd (cc)
-
 -- the beginning of a text stands where the text does
 stands-prefix : (strings p q : List ℕ) (at : ℕ) → stands_at strings (p ++ q) at ≡ true → stands_at strings p at ≡ true
 stands-prefix strings p q at h =
-    let parts = both (nat_le (at + length (p ++ q)) (length strings)) (bytes_eq (take (length (p ++ q)) (drop at strings)) (p ++ q)) h in
+    let parts = and_parts (nat_le (at + length (p ++ q)) (length strings)) (bytes_eq (take (length (p ++ q)) (drop at strings)) (p ++ q)) h in
     let fits = leb-true (at + length (p ++ q)) (length strings) parts.0 in
     let long = length-append p q in
     let same = (bytes_eq-Decides (take (length (p ++ q)) (drop at strings)) (p ++ q)).0 parts.1 in
@@ -46,7 +42,7 @@ value-none b t p q never =
     let strings = strings_of b t in
     find-none (is_named strings (p ++ q)) (λ s. s.value) (symbols_from b t.at t.count)
     (λ s named.
-    let stands = (both (not (s.section == 0)) (stands_at strings (with_nul (p ++ q)) s.name) named).1 in
+    let stands = (and_parts (not (s.section == 0)) (stands_at strings (with_nul (p ++ q)) s.name) named).1 in
     never (s.name, stands-prefix strings p (q ++ 0 ∷ []) s.name (ap (λ x. stands_at strings x s.name) (sym (append_assoc p q (0 ∷ []))) ∙ stands)))
 
 pub not-true : (b : Bool) → b ≡ false → IsTrue b → ⊥

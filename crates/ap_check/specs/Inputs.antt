@@ -3,12 +3,14 @@ use Rattle.std.specs.Prelude.{◌≡◌, ℕ, ◌+◌, ◌-◌, ◌^◌, ◌≤�
 use Rattle.std.specs.List.{list_any}
 use Rattle.ap_fields.specs.Granules.{floor_of, ceil_of}
 use Rattle.ap_fields.specs.declared.sizes.TheConstants.{MOST_LOADS}
+use Rattle.ap_elf.specs.declared.constants.TheConstants.{EM_AARCH64, EHDR_SIZE, PT_NOTE, PT_TLS, PT_GNU_STACK, PF_R, PF_W, PF_X, ADDRESS_TOP}
 use Rattle.ap_elf.specs.declared.types.Header.{Header}
 use Rattle.ap_elf.specs.declared.types.Entry.{Entry}
 use Rattle.ap_elf.specs.declared.types.Tables.{Tables}
 use Rattle.ap_elf.specs.declared.types.Located.{Located}
 use Rattle.ap_elf.specs.declared.types.Located.TheVariants.{Part, Missing, At}
 use Rattle.ap_elf.specs.Fields.{header_of, entries_of, loads_in}
+use Rattle.ap_elf.specs.InputCell.{permissions_of}
 use Rattle.ap_elf.specs.Symbols.{located, value_of}
 use Rattle.ap_elf.specs.declared.machine.Machine.{Machine}
 use Rattle.ap_elf.specs.declared.machine.Machine.TheVariants.{X64, A64}
@@ -40,7 +42,7 @@ abbrev pub has_address : Load → ℕ → Bool
 has_address p a = nat_le p.vaddr a && nat_lt a (p.vaddr + p.memsz)
 
 abbrev pub is_executable : Load → Bool
-is_executable p = not (bit_and p.perms.0 1 == 0)
+is_executable p = not (bit_and p.perms.0 PF_X == 0)
 
 -- whether an address is one of a load that may be executed
 abbrev pub can_start : ℕ → List Load → Bool
@@ -48,7 +50,7 @@ can_start a loads = list_any (λ p. has_address p a && is_executable p) loads
 
 -- whether a load may be read, and isn't both written and executed
 abbrev pub is_permitted : Load → Bool
-is_permitted p = not (bit_and p.perms.0 4 == 0) && not (bit_and p.perms.0 3 == 3)
+is_permitted p = not (bit_and p.perms.0 PF_R == 0) && not (bit_and p.perms.0 (PF_W + PF_X) == PF_W + PF_X)
 
 -- where the granules of the last load end, or `low` where there is none
 abbrev pub last_stop : ℕ → ℕ → List Load → ℕ
@@ -74,9 +76,10 @@ pub record IsLoad (g size low : ℕ) (p : Load) : Type 0 where
   pub sizes : p.filesz ≤ p.memsz
   pub part : 0 < p.filesz → p.offset + p.filesz ≤ size
   pub base : 65536 ≤ p.vaddr
-  pub top : p.vaddr + p.memsz ≤ 2 ^ 47
+  pub top : p.vaddr + p.memsz ≤ ADDRESS_TOP
   pub order : low ≤ floor_of p.vaddr g
   pub perms : p.perms.0 < 8
+  pub readable : is_permitted p ≡ true
 
 -- loads whose granules ascend from an address on
 abbrev pub AreLoads : ℕ → ℕ → ℕ → List Load → Type 0
@@ -84,28 +87,28 @@ AreLoads g size low [] = Unit {0}
 AreLoads g size low (p ∷ loads) = IsLoad g size low p × AreLoads g size (ceil_of (p.vaddr + p.memsz) g) loads
 
 abbrev pub is_tls : Entry → Bool
-is_tls p = p.kind == 7
+is_tls p = p.kind == PT_TLS
 
 -- the template of thread-local storage
 pub record IsTls (loads : List Load) (p : Entry) : Type 0 where
-  pub kind : p.kind ≡ 7
+  pub kind : p.kind ≡ PT_TLS
   pub sizes : p.filesz ≤ p.memsz
   pub small : p.memsz ≤ 2 ^ 30
   pub aligned : p.align ≤ 2 ^ 30
-  pub top : p.vaddr + p.memsz ≤ 2 ^ 47
+  pub top : p.vaddr + p.memsz ≤ ADDRESS_TOP
   pub part : 0 < p.filesz → in_part p.vaddr p.filesz loads ≡ true
 
 -- a note that has bytes, all of them in the file part of one load
 abbrev pub is_note : List Load → Entry → Bool
-is_note loads p = p.kind == 4 && (not (p.filesz == 0) && in_part p.vaddr p.filesz loads)
+is_note loads p = p.kind == PT_NOTE && (not (p.filesz == 0) && in_part p.vaddr p.filesz loads)
 
 -- an entry that speaks of the stack
 abbrev pub is_stack : Entry → Bool
-is_stack p = p.kind == 0x6474e551
+is_stack p = p.kind == PT_GNU_STACK
 
 -- what each input meets that was taken
 pub record Meets (i : Taken) : Type 0 where
-  pub least : 64 ≤ i.size
+  pub least : EHDR_SIZE ≤ i.size
   pub most : i.size ≤ 2 ^ 28
   pub some : 0 < length i.loads
   pub few : length i.loads ≤ MOST_LOADS
@@ -120,7 +123,7 @@ pub record Meets (i : Taken) : Type 0 where
 
 -- what is taken of a load
 abbrev pub load_of : Entry → Load
-load_of p = record { offset = p.offset; vaddr = p.vaddr; filesz = p.filesz; memsz = p.memsz; perms = record { 0 = bit_and p.flags 7 } }
+load_of p = record { offset = p.offset; vaddr = p.vaddr; filesz = p.filesz; memsz = p.memsz; perms = record { 0 = permissions_of p } }
 
 -- the first that passes a test
 abbrev pub first_of : (Entry → Bool) → List Entry → Option Entry
@@ -128,7 +131,7 @@ first_of test [] = None
 first_of test (p ∷ entries) = if test p then Some p else first_of test entries
 
 abbrev pub machine_of : ℕ → Machine
-machine_of number = if number == 183 then A64 else X64
+machine_of number = if number == EM_AARCH64 then A64 else X64
 
 -- the loads that are taken of program headers
 abbrev pub loads_of : List Entry → List Load

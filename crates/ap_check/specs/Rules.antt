@@ -6,6 +6,7 @@ use Rattle.ap_fields.specs.declared.sizes.TheConstants.{MOST_LOADS}
 use Rattle.ap_fields.specs.Fields.{number_at}
 use Rattle.ap_fields.specs.Granules.{floor_of, ceil_of}
 use Rattle.ap_fields.specs.FirstFault.{Rules, first_fault}
+use Rattle.ap_elf.specs.declared.constants.TheConstants.{ELF_MAGIC, EI_CLASS, EI_DATA, EI_VERSION, ELFCLASS64, ELFDATA2LSB, EV_CURRENT, ET_EXEC, EM_X86_64, EM_AARCH64, EHDR_SIZE, PHDR_SIZE, MOST_PHDRS, ADDRESS_TOP, PF_R, PF_W, PF_X}
 use Rattle.ap_elf.specs.declared.types.Header.{Header}
 use Rattle.ap_elf.specs.declared.types.Entry.{Entry}
 use Rattle.ap_elf.specs.Fields.{header_of, entries_of, loads_in}
@@ -26,27 +27,27 @@ fault_of n rule item value = record { rule = rule; input = n; item = item; value
 abbrev pub size_rules : ℕ → ℕ → Rules Fault
 size_rules n size =
     (nat_le size (2 ^ 28), fault_of n 1 0 size)
-    ∷ (nat_le 64 size, fault_of n 2 0 size)
+    ∷ (nat_le EHDR_SIZE size, fault_of n 2 0 size)
     ∷ []
 
 -- rules 3 to 6: an ELF file of 64 bits, little endian, version 1
 abbrev pub ident_rules : ℕ → Header → Rules Fault
 ident_rules n h =
-    (number_at 4 0 h.ident == 0x464c457f, fault_of n 3 0 (number_at 4 0 h.ident))
-    ∷ (slice_index h.ident 4 == 2, fault_of n 4 0 (slice_index h.ident 4))
-    ∷ (slice_index h.ident 5 == 1, fault_of n 5 0 (slice_index h.ident 5))
-    ∷ (slice_index h.ident 6 == 1, fault_of n 6 0 (slice_index h.ident 6))
+    (number_at 4 0 h.ident == ELF_MAGIC, fault_of n 3 0 (number_at 4 0 h.ident))
+    ∷ (slice_index h.ident EI_CLASS == ELFCLASS64, fault_of n 4 0 (slice_index h.ident EI_CLASS))
+    ∷ (slice_index h.ident EI_DATA == ELFDATA2LSB, fault_of n 5 0 (slice_index h.ident EI_DATA))
+    ∷ (slice_index h.ident EI_VERSION == EV_CURRENT, fault_of n 6 0 (slice_index h.ident EI_VERSION))
     ∷ []
 
 -- rules 6 to 11: a program at fixed addresses for a machine that is known, with 1 to 64 program headers in the file
 abbrev pub field_rules : ℕ → ℕ → Header → Rules Fault
 field_rules n size h =
-    (h.e_version == 1, fault_of n 6 0 h.e_version)
-    ∷ (h.e_type == 2, fault_of n 7 0 h.e_type)
-    ∷ (h.e_machine == 62 || h.e_machine == 183, fault_of n 8 0 h.e_machine)
-    ∷ (h.e_phentsize == 56, fault_of n 9 0 h.e_phentsize)
-    ∷ (nat_le 1 h.e_phnum && nat_le h.e_phnum 64, fault_of n 10 0 h.e_phnum)
-    ∷ (nat_le (h.e_phoff + 56 * h.e_phnum) size, fault_of n 11 0 h.e_phoff)
+    (h.e_version == EV_CURRENT, fault_of n 6 0 h.e_version)
+    ∷ (h.e_type == ET_EXEC, fault_of n 7 0 h.e_type)
+    ∷ (h.e_machine == EM_X86_64 || h.e_machine == EM_AARCH64, fault_of n 8 0 h.e_machine)
+    ∷ (h.e_phentsize == PHDR_SIZE, fault_of n 9 0 h.e_phentsize)
+    ∷ (nat_le 1 h.e_phnum && nat_le h.e_phnum MOST_PHDRS, fault_of n 10 0 h.e_phnum)
+    ∷ (nat_le (h.e_phoff + PHDR_SIZE * h.e_phnum) size, fault_of n 11 0 h.e_phoff)
     ∷ []
 
 -- rules 3 to 11
@@ -68,8 +69,8 @@ abbrev pub load_rules : ℕ → ℕ → ℕ → ℕ → ℕ → Entry → Rules 
 load_rules n size g k low p =
     (nat_le p.filesz p.memsz, fault_of n 14 k p.filesz)
     ∷ (p.filesz == 0 || nat_le (p.offset + p.filesz) size, fault_of n 15 k p.offset)
-    ∷ (nat_le 65536 p.vaddr && nat_le (p.vaddr + p.memsz) (2 ^ 47), fault_of n 16 k p.vaddr)
-    ∷ (not (bit_and p.flags 4 == 0) && not (bit_and p.flags 3 == 3), fault_of n 17 k p.flags)
+    ∷ (nat_le 65536 p.vaddr && nat_le (p.vaddr + p.memsz) ADDRESS_TOP, fault_of n 16 k p.vaddr)
+    ∷ (not (bit_and p.flags PF_R == 0) && not (bit_and p.flags (PF_W + PF_X) == PF_W + PF_X), fault_of n 17 k p.flags)
     ∷ (nat_le low (floor_of p.vaddr g), fault_of n 18 k p.vaddr)
     ∷ []
 
@@ -90,20 +91,20 @@ span_rules n g loads =
 abbrev pub entry_rules : ℕ → ℕ → List Load → Rules Fault
 entry_rules n e loads = (can_start e loads, fault_of n 20 0 e) ∷ []
 
--- what rule 21 asks of the one entry of type 7: its sizes, its alignment, its addresses, and its part of the file
+-- what rule 21 asks of the one template of thread-local storage: its sizes, its alignment, its addresses, and its part of the file
 abbrev pub stands : List Load → Entry → Bool
 stands loads p =
     nat_le p.filesz p.memsz
     && (nat_le p.memsz (2 ^ 30) && nat_le p.align (2 ^ 30)
-    && (nat_le (p.vaddr + p.memsz) (2 ^ 47)
+    && (nat_le (p.vaddr + p.memsz) ADDRESS_TOP
     && (p.filesz == 0 || in_part p.vaddr p.filesz loads)))
 
--- no entry is of type 7, of those that are counted from k
+-- no entry is a template, of those that are counted from k
 abbrev pub single_rules : ℕ → ℕ → List Entry → Rules Fault
 single_rules n k [] = []
 single_rules n k (p ∷ entries) = (not (is_tls p), fault_of n 21 k p.vaddr) ∷ single_rules n (k + 1) entries
 
--- rule 21: the first entry of type 7 is the only one, and it stands
+-- rule 21: the first template is the only one, and it stands
 abbrev pub tls_rules : ℕ → ℕ → List Load → List Entry → Rules Fault
 tls_rules n k loads [] = []
 tls_rules n k loads (p ∷ entries) =

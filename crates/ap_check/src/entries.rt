@@ -1,10 +1,12 @@
 // Rules 12 and 13, of the program headers.
 ghost use Rattle.std.specs.Prelude.{◌≡◌, ◌≤◌, ◌<◌, OnOk, IfOk, length};
 ghost use Rattle.ap_fields.specs.declared.sizes.TheConstants.{MOST_LOADS};
+ghost use Rattle.ap_elf.specs.declared.constants.TheConstants.{MOST_PHDRS};
 ghost use Rattle.ap_elf.specs.Fields.{loads_in};
 ghost use Rattle.ap_check.specs.Rules.{Checks, dynamic_rules, count_rules, count_of_loads_rules};
 
 use crate::fault::{Fault, broken};
+use ap_elf::constants::MOST_PHDRS;
 use ap_elf::{Entry, is_dynamic, loads};
 use ap_fields::MOST_LOADS;
 use arrayvec::ArrayVec;
@@ -12,7 +14,7 @@ use arrayvec::ArrayVec;
 /// The loads among program headers, where rules 12 and 13 hold.
 #[tactic(auto, using(ap_fields::proofs::FirstFaults::join_steps), unfolding(crate::specs::Rules::count_of_loads_rules))]
 pub fn check_entries(entries: &[Entry], number: u8) -> Result<ArrayVec<Entry, MOST_LOADS>, Fault>
-    requires { length entries.now ≤ 64 }
+    requires { length entries.now ≤ MOST_PHDRS }
     ensures rules { Checks result (count_of_loads_rules number entries.now) }
     ensures loads { IfOk result (λ loads. loads.items ≡ loads_in entries.now) }
     ensures some { IfOk result (λ loads. 0 < length loads.items) }
@@ -25,7 +27,7 @@ pub fn check_entries(entries: &[Entry], number: u8) -> Result<ArrayVec<Entry, MO
 
 // Rule 12: nothing is left to a dynamic linker.
 fn check_dynamic(entries: &[Entry], number: u8) -> Result<(), Fault>
-    requires { length entries.now ≤ 64 }
+    requires { length entries.now ≤ MOST_PHDRS }
     ensures { Checks result (dynamic_rules number 1 entries.now) }
 {
     let mut k = 1;

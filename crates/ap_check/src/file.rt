@@ -1,18 +1,15 @@
 // The rules of one input, by its name.
-ghost use Rattle.std.specs.Prelude.{◌≡◌, true, All, IfOk};
+ghost use Rattle.std.specs.Prelude.{◌≡◌, IfOk};
 ghost use Rattle.ap_files.specs.Reads.{Reads, HasSize};
 ghost use Rattle.ap_elf.specs.Symbols.{located, FoundBelow};
 ghost use Rattle.ap_check.specs.Bare.{IsBare};
 ghost use Rattle.ap_check.specs.Ends.{ChecksFile};
-ghost use Rattle.ap_check.specs.Inputs.{is_permitted};
 
-use crate::bare::Bare;
-use crate::bare_file::check_bare_in;
+use crate::bare::{Bare, check_bare_in};
 use crate::end::CheckEnd;
 use crate::fault::broken;
 use crate::input::Input;
-use crate::named::with_symbols;
-use crate::named_file::symbols_in;
+use crate::named::{symbols_in, with_symbols};
 use ap_elf::{Located, locate_in};
 use ap_files::{Failed, Files};
 
@@ -25,7 +22,6 @@ pub fn check_input_in<F: Files>(files: &mut F, name: &str, number: u8) -> Result
     ensures ends { ChecksFile (F.state files.old) (F.state files.new) name.now number result }
     ensures size { IfOk result (λ i. HasSize (F.state files.new).kept name.now i.size) }
     ensures number { IfOk result (λ i. i.number ≡ number) }
-    ensures permissions { IfOk result (λ i. All (λ p. is_permitted p ≡ true) i.loads) }
 {
     match check_bare_in(files, name, number) {
         Ok(bare) => check_symbols_in(files, name, number, bare),
@@ -43,11 +39,9 @@ fn check_symbols_in<F: Files>(
     requires bare { IsBare (F.state files.old).kept name.now number bare }
     requires size { HasSize (F.state files.old).kept name.now bare.input.size }
     requires number { bare.input.number ≡ number }
-    requires permissions { All (λ p. is_permitted p ≡ true) bare.input.loads }
     ensures ends { ChecksFile (F.state files.old) (F.state files.new) name.now number result }
     ensures size { IfOk result (λ i. HasSize (F.state files.new).kept name.now i.size) }
     ensures number { IfOk result (λ i. i.number ≡ number) }
-    ensures permissions { IfOk result (λ i. All (λ p. is_permitted p ≡ true) i.loads) }
 {
     let Ok(found) = found_in(files, name, &bare) else {
         return Err(CheckEnd::ReadFault);
@@ -64,7 +58,8 @@ fn check_symbols_in<F: Files>(
 
 fn found_in<F: Files>(files: &mut F, name: &str, bare: &Bare) -> Result<Located, Failed>
     requires { HasSize (F.state files.old).kept name.now bare.now.input.size }
-    ensures read { Reads (F.state files.old) (F.state files.new) name.now (λ b found. found ≡ located bare.now.input.size b bare.now.header) result }
+    ensures read { Reads (F.state files.old) (F.state files.new) name.now
+        (λ b found. found ≡ located bare.now.input.size b bare.now.header) result }
     ensures ends { IfOk result (λ found. FoundBelow bare.now.input.size found) }
 {
     locate_in(files, name, bare.input.size, &bare.header)

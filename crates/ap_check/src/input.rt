@@ -1,8 +1,7 @@
 // What is taken of an input.
 use crate::load::Load;
-use ap_elf::Machine;
 use crate::symbols::Symbols;
-use ap_elf::Entry;
+use ap_elf::{Entry, Machine};
 use ap_fields::MOST_LOADS;
 use arrayvec::ArrayVec;
 use std::marker::Model;

@@ -4,11 +4,9 @@ ghost use Rattle.ap_fields.specs.declared.sizes.TheConstants.{MOST_LOADS};
 ghost use Rattle.ap_check.specs.Inputs as spec;
 ghost use Rattle.ap_check.specs.Inputs.{load_of};
 
-use ap_elf::Entry;
-use ap_fields::MOST_LOADS;
-use ap_fields::Perms;
+use ap_elf::{Entry, load_perms};
+use ap_fields::{MOST_LOADS, Perms};
 use arrayvec::ArrayVec;
-use bitflags::Flags;
 
 /// A part of an input that is loaded into memory: an entry of type `PT_LOAD` that has bytes there (System V gABI, "Program
 /// Loading").
@@ -46,6 +44,6 @@ fn load_from(p: &Entry) -> Load
         vaddr: p.vaddr,
         filesz: p.filesz,
         memsz: p.memsz,
-        perms: Perms::from_bits_retain((p.flags & 7) as u8),
+        perms: load_perms(p),
     }
 }

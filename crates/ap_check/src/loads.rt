@@ -1,13 +1,15 @@
 // Rules 14 to 18, of each load.
-ghost use Rattle.std.specs.Prelude.{◌≡◌, ◌≤◌, ◌+◌, ◌^◌, OnOk, IfOk, length, map};
-ghost use Rattle.ap_fields.specs.Granules.{IsGranule, ceil_of};
+ghost use Rattle.std.specs.Prelude.{◌≡◌, ◌≤◌, ◌+◌, OnOk, IfOk, length, map};
+ghost use Rattle.ap_fields.specs.Granules.{IsGranule};
 ghost use Rattle.ap_fields.specs.declared.sizes.TheConstants.{MOST_LOADS};
+ghost use Rattle.ap_elf.specs.declared.constants.TheConstants.{ADDRESS_TOP};
 ghost use Rattle.ap_check.specs.Rules.{Checks, load_rules, loads_rules};
 ghost use Rattle.ap_check.specs.Inputs.{load_of, last_stop, bytes_of_loads};
 
 use crate::fault::{Fault, broken};
-use ap_elf::Entry;
-use ap_fields::{ceil_to, floor_to};
+use ap_elf::constants::{ADDRESS_TOP, PF_R, PF_W, PF_X};
+use ap_elf::{Entry, load_end};
+use ap_fields::floor_to;
 
 /// How far loads reach, and how many bytes of the file they have.
 #[derive(Clone, Copy)]
@@ -30,7 +32,7 @@ pub fn check_loads(loads: &[Entry], size: u64, granule: u64, number: u8) -> Resu
     let mut k = 1;
     for p in loads {
         check_load(p, k, extent.stop, size, granule, number)?;
-        extent.stop = stop(p, granule);
+        extent.stop = load_end(p, granule);
         extent.bytes += p.filesz;
         k += 1;
     }
@@ -43,7 +45,7 @@ fn check_load(p: &Entry, k: u16, low: u64, size: u64, granule: u64, number: u8) 
     requires { IsGranule granule }
     ensures rules { Checks result (load_rules number size granule k low p.now) }
     ensures sizes { OnOk result (p.now.filesz ≤ p.now.memsz) }
-    ensures top { OnOk result (p.now.vaddr + p.now.memsz ≤ 2 ^ 47) }
+    ensures top { OnOk result (p.now.vaddr + p.now.memsz ≤ ADDRESS_TOP) }
 {
     if p.filesz > p.memsz {
         return Err(broken(number, 14, k, p.filesz));
@@ -51,24 +53,14 @@ fn check_load(p: &Entry, k: u16, low: u64, size: u64, granule: u64, number: u8) 
     if p.filesz != 0 && (p.filesz > size || p.offset > size - p.filesz) {
         return Err(broken(number, 15, k, p.offset));
     }
-    if p.vaddr < 65536 || p.memsz > 1 << 47 || p.vaddr > (1 << 47) - p.memsz {
+    if p.vaddr < 65536 || p.memsz > ADDRESS_TOP || p.vaddr > ADDRESS_TOP - p.memsz {
         return Err(broken(number, 16, k, p.vaddr));
     }
-    if p.flags & 4 == 0 || p.flags & 3 == 3 {
+    if p.flags & PF_R == 0 || p.flags & (PF_W | PF_X) == PF_W | PF_X {
         return Err(broken(number, 17, k, p.flags as u64));
     }
     if floor_to(p.vaddr, granule) < low {
         return Err(broken(number, 18, k, p.vaddr));
     }
     Ok(())
-}
-
-// Where the granules of a load end.
-#[tactic(auto, using(ap_fields::proofs::Granules::powers))]
-fn stop(p: &Entry, granule: u64) -> u64
-    requires granule { IsGranule granule }
-    requires top { p.now.vaddr + p.now.memsz ≤ 2 ^ 47 }
-    ensures { result ≡ ceil_of (p.now.vaddr + p.now.memsz) granule }
-{
-    ceil_to(p.vaddr + p.memsz, granule)
 }

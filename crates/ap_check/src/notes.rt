@@ -5,9 +5,10 @@ ghost use Rattle.ap_check.specs.Inputs as spec;
 use crate::load::Load;
 use crate::part::in_part;
 use ap_elf::Entry;
+use ap_elf::constants::PT_NOTE;
 use arrayvec::ArrayVec;
 
-/// The first five entries of type 4 (`PT_NOTE`) that have bytes, all of them in the file part of one load.
+/// The first five entries of type `PT_NOTE` that have bytes, all of them in the file part of one load.
 #[tactic(auto, using(crate::proofs::Firsts::first_steps))]
 pub fn notes(entries: &[Entry], loads: &[Load]) -> ArrayVec<Entry, 5>
     ensures { result.items ≡ take 5 (filter (spec.is_note loads.now) entries.now) }
@@ -34,5 +35,5 @@ fn keep(notes: &mut ArrayVec<Entry, 5>, p: &Entry)
 fn is_note(p: &Entry, loads: &[Load]) -> bool
     ensures { result ≡ spec.is_note loads.now p.now }
 {
-    p.kind == 4 && p.filesz != 0 && in_part(loads, p.vaddr, p.filesz)
+    p.kind == PT_NOTE && p.filesz != 0 && in_part(loads, p.vaddr, p.filesz)
 }

@@ -4,8 +4,9 @@ ghost use Rattle.ap_check.specs.Inputs as spec;
 ghost use Rattle.ap_check.specs.Inputs.{first_of};
 
 use ap_elf::Entry;
+use ap_elf::constants::PT_GNU_STACK;
 
-/// The first entry that speaks of the stack, of the type 0x6474e551 (`PT_GNU_STACK`).
+/// The first entry that speaks of the stack, of the type `PT_GNU_STACK`.
 pub fn stack(entries: &[Entry]) -> Option<Entry>
     ensures { result ≡ first_of spec.is_stack entries.now }
 {
@@ -20,5 +21,5 @@ pub fn stack(entries: &[Entry]) -> Option<Entry>
 fn is_stack(p: &Entry) -> bool
     ensures { result ≡ spec.is_stack p.now }
 {
-    p.kind == 0x6474e551
+    p.kind == PT_GNU_STACK
 }

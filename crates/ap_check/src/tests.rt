@@ -3,9 +3,8 @@ ghost use Rattle.ap_files.specs.Machine.{no_faults, untold_files};
 
 use crate::*;
 use ap_elf::Entry;
-use ap_fields::{put16, put32, put64};
+use ap_fields::{Perms, put16, put32, put64};
 use ap_files::{Failed, Files, MemoryFiles};
-use ap_fields::Perms;
 use bitflags::Flags;
 use std::process::Abort;
 use std::test::Fail;

@@ -1,16 +1,13 @@
 -- Texts compared with parts of a file.
 use Rattle.std.proofs.Common.{◌≡◌, ℕ, zero, suc, ◌+◌, ◌-◌, ◌<◌, ◌≤◌, ◌==◌, ◌&&◌, nat_le, nat_eq, List, [], ◌∷◌, length, take, drop, slice_index, Bool, true, false, refl, sym, ap, ◌∙◌, arith, length-drop}
 use Rattle.std.specs.Str.{bytes_eq}
-use Rattle.std.proofs.lemmas.Bool.{le-leb}
+use Rattle.std.proofs.lemmas.Bool.{le-leb, and_left}
+use Rattle.std.proofs.Math.Bool.{and_assoc, and-true}
 use Rattle.std.proofs.lemmas.List.{take-take, drop-drop, drop-take, drop_more, length_push, get_or-take, get_or-drop}
 use Rattle.ap_elf.specs.declared.types.Tables.{Tables}
 use Rattle.ap_elf.specs.Symbols.{strings_of, stands_at, with_nul, EndBelow}
 use Rattle.ap_elf.proofs.Names.{with_nul-begins}
 use Rattle.ap_elf.proofs.Searches.{part-part, length-strings}
-
-and_assoc : (a b c : Bool) → (a && (b && c)) ≡ ((a && b) && c)
-and_assoc true b c = refl
-and_assoc false b c = refl
 
 bytes_eq-split : (m : ℕ) (x y : List ℕ) → bytes_eq x y ≡ (bytes_eq (take m x) (take m y) && bytes_eq (drop m x) (drop m y))
 bytes_eq-split zero x y = refl
@@ -18,7 +15,7 @@ bytes_eq-split (suc m) [] [] = refl
 bytes_eq-split (suc m) [] (b ∷ y) = refl
 bytes_eq-split (suc m) (a ∷ x) [] = refl
 bytes_eq-split (suc m) (a ∷ x) (b ∷ y) =
-    ap (λ t. nat_eq a b && t) (bytes_eq-split m x y) ∙ and_assoc (nat_eq a b) (bytes_eq (take m x) (take m y)) (bytes_eq (drop m x) (drop m y))
+    ap (λ t. nat_eq a b && t) (bytes_eq-split m x y) ∙ sym (and_assoc (nat_eq a b) (bytes_eq (take m x) (take m y)) (bytes_eq (drop m x) (drop m y)))
 
 -- what is left to compare, by the next piece and the rest
 pub agree-step : (b y : List ℕ) (at done n : ℕ) → done + n ≤ length y
@@ -35,31 +32,20 @@ agree-step b y at done n h =
     ∙ ap (λ l. bytes_eq (take n x) (take n (drop done y)) && bytes_eq l (drop n (drop done y))) rest
     ∙ ap (λ l. bytes_eq (take n x) (take n (drop done y)) && bytes_eq (take (length y - (done + n)) (drop (at + (done + n)) b)) l) (drop-drop n done y)
 
-and_true : (a b : Bool) → true ≡ a → (a && b) ≡ b
-and_true true b e = refl
-and_true false b e = absurd (cc)
-
-and_false : (a b : Bool) → false ≡ a → (a && b) ≡ false
-and_false true b e = absurd (cc)
-and_false false b e = refl
-
 -- a piece that agrees, and one that doesn't
 pub agree-next : (b y : List ℕ) (at done n : ℕ) (whole : Bool) → done + n ≤ length y → whole ≡ bytes_eq (take (length y - done) (drop (at + done) b)) (drop done y)
     → true ≡ bytes_eq (take n (drop (at + done) b)) (take n (drop done y))
     → whole ≡ bytes_eq (take (length y - (done + n)) (drop (at + (done + n)) b)) (drop (done + n) y)
-agree-next b y at done n whole h left same = left ∙ agree-step b y at done n h ∙ and_true _ _ same
+agree-next b y at done n whole h left same = left ∙ agree-step b y at done n h
+    ∙ ap (λ t. t && bytes_eq (take (length y - (done + n)) (drop (at + (done + n)) b)) (drop (done + n) y)) (sym same)
 
 pub agree-not : (b y : List ℕ) (at done n : ℕ) (whole : Bool) → done + n ≤ length y → whole ≡ bytes_eq (take (length y - done) (drop (at + done) b)) (drop done y)
     → false ≡ bytes_eq (take n (drop (at + done) b)) (take n (drop done y)) → false ≡ whole
-agree-not b y at done n whole h left other = sym (left ∙ agree-step b y at done n h ∙ and_false _ _ other)
-
-and_last : (x : Bool) → (x && true) ≡ x
-and_last true = refl
-and_last false = refl
+agree-not b y at done n whole h left other = sym (left ∙ agree-step b y at done n h ∙ and_left _ _ (sym other))
 
 -- a byte, compared as a text
 byte_eq : (b : List ℕ) (at : ℕ) → at < length b → (slice_index b at == 0) ≡ bytes_eq (take 1 (drop at b)) (0 ∷ [])
-byte_eq b at h = sym (ap (λ l. bytes_eq (take 1 l) (0 ∷ [])) (drop_more b at 0 h) ∙ and_last (slice_index b at == 0))
+byte_eq b at h = sym (ap (λ l. bytes_eq (take 1 l) (0 ∷ [])) (drop_more b at 0 h) ∙ and-true (slice_index b at == 0))
 
 -- a name and its NUL among the strings, by the file's bytes
 pub stands_at-file : (b name : List ℕ) (t : Tables) (at : ℕ) → EndBelow (length b) t → at + length name < t.length

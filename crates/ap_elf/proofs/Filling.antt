@@ -1,17 +1,13 @@
 -- A buffer that is filled from its front on, one number after the other.
 use Rattle.std.proofs.Common.{◌≡◌, ℕ, zero, suc, ◌+◌, ◌-◌, ◌^◌, ◌<◌, ◌≤◌, List, [], ◌++◌, length, take, drop, slice_index, refl, sym, ap, ◌∙◌, subst, arith, length-append, length-drop, append_assoc}
-use Rattle.std.specs.Int.{byte_at, bytes_low_first}
+use Rattle.std.specs.Int.{bytes_low_first}
 use Rattle.std.proofs.lemmas.List.{length-take-le, take_all}
 use Rattle.std.proofs.Math.Seq.{take-append_seam}
 use Rattle.ap_fields.specs.Fields.{number_at, bytes_of, Puts}
-use Rattle.ap_fields.proofs.Numbers.{number_at-lt, number_at-append_left, number_at-append_right, length-bytes_of}
+use Rattle.ap_fields.proofs.Numbers.{number_at-lt, number_at-append_left, number_at-append_right, length-bytes_of, byte_at-lt}
 use Rattle.ap_elf.specs.declared.types.Header.{Header}
 use Rattle.ap_elf.specs.declared.types.Entry.{Entry}
 use Rattle.ap_elf.specs.Written.{header_bytes, entry_bytes, HeaderFits, EntryFits}
-
-byte_at-lt : (i x : ℕ) → byte_at i x < 256
-byte_at-lt zero x = omega arith
-byte_at-lt (suc i) x = omega arith
 
 bytes_low_first-lt : (i n x k : ℕ) → slice_index (bytes_low_first i n x) k < 256
 bytes_low_first-lt i zero x k = omega arith

@@ -3,11 +3,9 @@ pub mod Alike
 pub mod SymbolSteps
 pub mod Names
 pub mod SymbolReads
-pub mod Reading
 pub mod Searches
 pub mod Comparing
 pub mod Sightings
 pub mod Values
-pub mod Absences
 pub mod ReadBack
 pub mod Filling

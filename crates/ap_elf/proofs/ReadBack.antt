@@ -1,43 +1,13 @@
 -- What was written is read: numbers, headers, program headers and their tables.
-use Rattle.std.proofs.Common.{◌≡◌, ℕ, suc, ◌+◌, ◌*◌, ◌^◌, ◌<◌, ◌≤◌, List, [], ◌∷◌, ◌++◌, length, take, slice_index, refl, sym, ap, ◌∙◌, arith, append-nil, length-append}
-use Rattle.std.proofs.lemmas.List.{get_or_append_left, get_or-append-add}
+use Rattle.std.proofs.Common.{◌≡◌, ℕ, suc, ◌+◌, ◌*◌, ◌^◌, ◌<◌, ◌≤◌, List, [], ◌∷◌, ◌++◌, length, take, slice_index, refl, sym, ap, ◌∙◌, arith, length-append}
 use Rattle.ap_fields.specs.Fields.{number_at, bytes_of}
 use Rattle.ap_fields.specs.Bytes.{Holds}
-use Rattle.ap_fields.proofs.Numbers.{number_at-same, number_at-bytes_of, length-bytes_of}
-use Rattle.ap_fields.proofs.Bytes.{holds-part}
+use Rattle.ap_fields.proofs.Numbers.{length-bytes_of}
+use Rattle.ap_fields.proofs.Bytes.{holds-part, holds-front, holds-behind, number_at-holds}
 use Rattle.ap_elf.specs.declared.types.Header.{Header}
 use Rattle.ap_elf.specs.declared.types.Entry.{Entry}
 use Rattle.ap_elf.specs.Fields.{header_of, entry_at, entries_from}
 use Rattle.ap_elf.specs.Written.{header_bytes, entry_bytes, table_bytes, HeaderFits, EntryFits, EntriesFit, TablesAreReadBack}
-
--- the part of a file that holds the first of two lists, and the part behind it
-pub holds-front : (w : List ℕ) (at : ℕ) (part rest : List ℕ) → Holds w at (part ++ rest) → Holds w at part
-holds-front w at part rest h =
-    let len = length-append part rest in
-    let fits = h.fits in
-    record {
-      fits = omega arith;
-      same = λ k l. h.same k (omega arith) ∙ get_or_append_left part rest 0 k l;
-    }
-
-pub holds-behind : (w : List ℕ) (at next : ℕ) (part rest : List ℕ) → next ≡ at + length part → Holds w at (part ++ rest) → Holds w next rest
-holds-behind w at next part rest is h =
-    let len = length-append part rest in
-    let fits = h.fits in
-    record {
-      fits = omega arith;
-      same = λ k l. let place : next + k ≡ at + (length part + k) = omega arith in
-          ap (λ i. slice_index w i) place ∙ h.same (length part + k) (omega arith) ∙ get_or-append-add part rest k 0;
-    }
-
--- a number that a file holds reads as itself
-number_at-holds : (n x at : ℕ) (w : List ℕ) → x < 256 ^ n → Holds w at (bytes_of n x) → number_at n at w ≡ x
-number_at-holds n x at w small h =
-    let len = length-bytes_of n x in
-    let all : bytes_of n x ++ [] ≡ bytes_of n x = append-nil (bytes_of n x) in
-    number_at-same n at 0 w (bytes_of n x) (λ i l. h.same i (omega arith) ∙ ap (λ k. slice_index (bytes_of n x) k) (omega arith))
-    ∙ ap (number_at n 0) (sym all)
-    ∙ number_at-bytes_of n x [] small
 
 -- the first of some numbers, and the others
 number_at-first : (n x at : ℕ) (w rest : List ℕ) → x < 256 ^ n → Holds w at (bytes_of n x ++ rest) → number_at n at w ≡ x
@@ -146,10 +116,6 @@ tables-read_back entries fits = record {
   back = λ w at held. entries_from-holds w at entries fits held;
 }
 
--- whatever stands behind a header, in front of a program header and behind it
+-- whatever stands behind a header
 pub header_of-bytes : (h : Header) (rest : List ℕ) → HeaderFits h → header_of (header_bytes h ++ rest) ≡ h
 header_of-bytes h rest fits = header_of-holds (header_bytes h ++ rest) h fits (holds-part [] (header_bytes h) rest 0 refl)
-
-pub entry_at-bytes : (front rest : List ℕ) (p : Entry) → EntryFits p → entry_at (front ++ (entry_bytes p ++ rest)) (length front) ≡ p
-entry_at-bytes front rest p fits =
-    entry_at-holds (front ++ (entry_bytes p ++ rest)) (length front) p fits (holds-part front (entry_bytes p) rest (length front) refl)

@@ -1,9 +1,10 @@
 -- The ELF reading: what a static ELF file puts into memory, for a machine and a page size (System V gABI, "Program
 -- Loading"; how much of a page a load shows is what kernels map). It is a function of the file's length, its header,
 -- its program headers and, for the cells, its bytes by their places.
-use Rattle.std.specs.Prelude.{ℕ, ◌+◌, ◌*◌, ◌-◌, ◌%◌, ◌^◌, ◌==◌, ◌&&◌, ◌||◌, not, nat_le, nat_lt, if◌then◌else◌, Bool, List, [], ◌∷◌, ◌++◌, length, slice_index, Option, Some, None, Result}
+use Rattle.std.specs.Prelude.{ℕ, ◌+◌, ◌*◌, ◌-◌, ◌%◌, ◌==◌, ◌&&◌, ◌||◌, not, nat_le, nat_lt, if◌then◌else◌, Bool, List, [], ◌∷◌, ◌++◌, length, slice_index, Option, Some, None, Result}
 use Rattle.ap_fields.specs.Fields.{number_at}
 use Rattle.ap_fields.specs.Granules.{floor_of, ceil_of}
+use Rattle.ap_elf.specs.declared.constants.TheConstants.{ELF_MAGIC, EI_CLASS, EI_DATA, EI_VERSION, ELFCLASS64, ELFDATA2LSB, EV_CURRENT, ET_EXEC, EHDR_SIZE, PHDR_SIZE, PT_DYNAMIC, PT_INTERP, MOST_PHDRS, ADDRESS_TOP}
 use Rattle.ap_elf.specs.declared.types.Header.{Header}
 use Rattle.ap_elf.specs.declared.types.Entry.{Entry}
 use Rattle.ap_elf.specs.declared.fault.ElfFault.{ElfFault}
@@ -20,22 +21,22 @@ refusal cause item value = record { cause = cause; item = item; value = value }
 -- of the file's front
 abbrev pub header_rules : ℕ → ℕ → Header → Rules ElfFault
 header_rules machine len h =
-    (nat_le 64 len, refusal Short 0 len)
-    ∷ (number_at 4 0 h.ident == 0x464c457f, refusal Magic 0 (number_at 4 0 h.ident))
-    ∷ (slice_index h.ident 4 == 2, refusal Class 0 (slice_index h.ident 4))
-    ∷ (slice_index h.ident 5 == 1, refusal Endian 0 (slice_index h.ident 5))
-    ∷ (slice_index h.ident 6 == 1, refusal Version 0 (slice_index h.ident 6))
-    ∷ (h.e_version == 1, refusal Version 0 h.e_version)
-    ∷ (h.e_type == 2, refusal FileType 0 h.e_type)
+    (nat_le EHDR_SIZE len, refusal Short 0 len)
+    ∷ (number_at 4 0 h.ident == ELF_MAGIC, refusal Magic 0 (number_at 4 0 h.ident))
+    ∷ (slice_index h.ident EI_CLASS == ELFCLASS64, refusal Class 0 (slice_index h.ident EI_CLASS))
+    ∷ (slice_index h.ident EI_DATA == ELFDATA2LSB, refusal Endian 0 (slice_index h.ident EI_DATA))
+    ∷ (slice_index h.ident EI_VERSION == EV_CURRENT, refusal Version 0 (slice_index h.ident EI_VERSION))
+    ∷ (h.e_version == EV_CURRENT, refusal Version 0 h.e_version)
+    ∷ (h.e_type == ET_EXEC, refusal FileType 0 h.e_type)
     ∷ (h.e_machine == machine, refusal Machine 0 h.e_machine)
-    ∷ (h.e_phentsize == 56, refusal TableSize 0 h.e_phentsize)
-    ∷ (nat_le 1 h.e_phnum && nat_le h.e_phnum 64, refusal TableCount 0 h.e_phnum)
-    ∷ (nat_le (h.e_phoff + 56 * h.e_phnum) len, refusal TableRange 0 h.e_phoff)
+    ∷ (h.e_phentsize == PHDR_SIZE, refusal TableSize 0 h.e_phentsize)
+    ∷ (nat_le 1 h.e_phnum && nat_le h.e_phnum MOST_PHDRS, refusal TableCount 0 h.e_phnum)
+    ∷ (nat_le (h.e_phoff + PHDR_SIZE * h.e_phnum) len, refusal TableRange 0 h.e_phoff)
     ∷ []
 
 -- an interpreter, or tables for the dynamic linker
 abbrev pub is_dynamic : Entry → Bool
-is_dynamic p = p.kind == 3 || p.kind == 2
+is_dynamic p = p.kind == PT_INTERP || p.kind == PT_DYNAMIC
 
 -- of the entries, counted from k
 abbrev pub dynamic_rules : ℕ → List Entry → Rules ElfFault
@@ -47,7 +48,7 @@ abbrev pub load_rules : ℕ → ℕ → ℕ → ℕ → Entry → Rules ElfFault
 load_rules page len k low p =
     (nat_le p.filesz p.memsz, refusal Sizes k p.filesz)
     ∷ (p.filesz == 0 || nat_le (p.offset + p.filesz) len, refusal Range k p.offset)
-    ∷ (nat_le (p.vaddr + p.memsz) (2 ^ 47), refusal Top k p.vaddr)
+    ∷ (nat_le (p.vaddr + p.memsz) ADDRESS_TOP, refusal Top k p.vaddr)
     ∷ (p.filesz == 0 || p.offset % page == p.vaddr % page, refusal Congruent k p.offset)
     ∷ (nat_le low (floor_of p.vaddr page), refusal Order k p.vaddr)
     ∷ []

@@ -1,12 +1,13 @@
 -- The ELF header and the program headers as numbers in a file's bytes (System V gABI, ELF64, little endian).
 use Rattle.std.specs.Prelude.{ℕ, zero, suc, ◌+◌, ◌==◌, ◌&&◌, not, Bool, List, [], ◌∷◌, take, filter}
 use Rattle.ap_fields.specs.Fields.{number_at}
+use Rattle.ap_elf.specs.declared.constants.TheConstants.{EI_NIDENT, PHDR_SIZE, PT_LOAD}
 use Rattle.ap_elf.specs.declared.types.Header.{Header}
 use Rattle.ap_elf.specs.declared.types.Entry.{Entry}
 
 unfoldable pub header_of : List ℕ → Header
 header_of b = record {
-  ident = take 16 b;
+  ident = take EI_NIDENT b;
   e_type = number_at 2 16 b;
   e_machine = number_at 2 18 b;
   e_version = number_at 4 20 b;
@@ -38,7 +39,7 @@ entry_at b at = record {
 -- so many program headers, one behind the other from a place on
 abbrev pub entries_from : List ℕ → ℕ → ℕ → List Entry
 entries_from b at zero = []
-entries_from b at (suc n) = entry_at b at ∷ entries_from b (at + 56) n
+entries_from b at (suc n) = entry_at b at ∷ entries_from b (at + PHDR_SIZE) n
 
 -- the program header table
 unfoldable pub entries_of : List ℕ → List Entry
@@ -46,7 +47,7 @@ entries_of b = entries_from b (header_of b).e_phoff (header_of b).e_phnum
 
 -- a load: an entry that puts something into memory
 abbrev pub is_load : Entry → Bool
-is_load p = p.kind == 1 && not (p.memsz == 0)
+is_load p = p.kind == PT_LOAD && not (p.memsz == 0)
 
 abbrev pub loads_in : List Entry → List Entry
 loads_in entries = filter is_load entries

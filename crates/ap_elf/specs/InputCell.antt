@@ -2,10 +2,11 @@
 -- gABI, "Program Loading").
 use Rattle.std.specs.Prelude.{ℕ, ◌+◌, ◌-◌, ◌&&◌, nat_le, nat_lt, if◌then◌else◌, Bool, List, [], ◌∷◌, Option, Some, None, bit_and}
 use Rattle.ap_fields.specs.Readings.{Cell}
+use Rattle.ap_elf.specs.declared.constants.TheConstants.{PF_R, PF_W, PF_X}
 use Rattle.ap_elf.specs.declared.types.Entry.{Entry}
 
 abbrev pub permissions_of : Entry → ℕ
-permissions_of p = bit_and p.flags 7
+permissions_of p = bit_and p.flags (PF_R + PF_W + PF_X)
 
 abbrev pub has_address : Entry → ℕ → Bool
 has_address p a = nat_le p.vaddr a && nat_lt a (p.vaddr + p.memsz)

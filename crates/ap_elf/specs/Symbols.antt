@@ -1,10 +1,13 @@
 -- The symbols of an ELF file: which section has them and which has their names, what may be wrong with these, and the
 -- value of a name (System V gABI, "Sections" and "Symbol Table").
-use Rattle.std.specs.Prelude.{ℕ, zero, suc, ◌+◌, ◌*◌, ◌/◌, ◌%◌, ◌≤◌, ◌==◌, ◌&&◌, ◌≡◌, not, nat_le, nat_lt, if◌then◌else◌, Bool, true, false, List, [], ◌∷◌, ◌++◌, length, take, drop, find, Option, Some, None}
+use Rattle.std.specs.Prelude.{ℕ, zero, suc, ◌+◌, ◌*◌, ◌/◌, ◌%◌, ◌^◌, ◌≤◌, ◌==◌, ◌&&◌, ◌≡◌, not, nat_le, nat_lt, if◌then◌else◌, Bool, true, false, List, [], ◌∷◌, ◌++◌, length, take, drop, find, Option, Some, None}
 use Rattle.std.specs.Option.{option_map}
 use Rattle.std.specs.Str.{bytes_eq}
 use Rattle.ap_fields.specs.Fields.{number_at}
 use Rattle.ap_fields.specs.FirstFault.{Rules, first_fault}
+use Rattle.ap_files.specs.Files.{FileMap}
+use Rattle.ap_files.specs.Reads.{HasFile}
+use Rattle.ap_elf.specs.declared.constants.TheConstants.{SHDR_SIZE, SYM_SIZE, SHT_SYMTAB, SHT_STRTAB, SHN_UNDEF}
 use Rattle.ap_elf.specs.declared.types.Header.{Header}
 use Rattle.ap_elf.specs.declared.types.Section.{Section}
 use Rattle.ap_elf.specs.declared.types.Symbol.{Symbol}
@@ -25,10 +28,10 @@ section_at b at = record {
 -- so many section headers, one behind the other from a place on
 abbrev pub sections_from : List ℕ → ℕ → ℕ → List Section
 sections_from b at zero = []
-sections_from b at (suc n) = section_at b at ∷ sections_from b (at + 64) n
+sections_from b at (suc n) = section_at b at ∷ sections_from b (at + SHDR_SIZE) n
 
 abbrev pub is_symbol_table : Section → Bool
-is_symbol_table s = s.kind == 2
+is_symbol_table s = s.kind == SHT_SYMTAB
 
 -- the symbol table: the first section that is one
 abbrev pub symbol_table : List ℕ → Header → Option Section
@@ -36,28 +39,28 @@ symbol_table b h = find is_symbol_table (sections_from b h.e_shoff h.e_shnum)
 
 -- the section of a number, counted from 0
 abbrev pub section_of : List ℕ → Header → ℕ → Option Section
-section_of b h i = if nat_lt i h.e_shnum then Some (section_at b (h.e_shoff + 64 * i)) else None
+section_of b h i = if nat_lt i h.e_shnum then Some (section_at b (h.e_shoff + SHDR_SIZE * i)) else None
 
 -- of the section headers
 abbrev pub place_rules : ℕ → Header → Rules ℕ
 place_rules size h =
-    (h.e_shentsize == 64, 1)
-    ∷ (nat_le (h.e_shoff + 64 * h.e_shnum) size, 2)
+    (h.e_shentsize == SHDR_SIZE, 1)
+    ∷ (nat_le (h.e_shoff + SHDR_SIZE * h.e_shnum) size, 2)
     ∷ []
 
 -- of the symbol table
 abbrev pub table_rules : ℕ → Section → Rules ℕ
 table_rules size t =
-    (t.entsize == 24, 3)
+    (t.entsize == SYM_SIZE, 3)
     ∷ (nat_le (t.offset + t.size) size, 4)
-    ∷ (t.size % 24 == 0, 5)
+    ∷ (t.size % SYM_SIZE == 0, 5)
     ∷ []
 
 -- of the string table
 abbrev pub string_rules : ℕ → Option Section → Rules ℕ
 string_rules size None = (false, 6) ∷ []
 string_rules size (Some s) =
-    (s.kind == 3, 6)
+    (s.kind == SHT_STRTAB, 6)
     ∷ (nat_le (s.offset + s.size) size, 7)
     ∷ []
 
@@ -73,7 +76,7 @@ symbols_rules size b h = place_rules size h ++ tables_rules size b h (symbol_tab
 -- where two sections say that the tables are
 abbrev pub tables_at : Section → Option Section → Located
 tables_at t None = Missing
-tables_at t (Some s) = At (record { at = t.offset; count = t.size / 24; strings = s.offset; length = s.size })
+tables_at t (Some s) = At (record { at = t.offset; count = t.size / SYM_SIZE; strings = s.offset; length = s.size })
 
 abbrev pub tables_of : List ℕ → Header → Option Section → Located
 tables_of b h None = Missing
@@ -112,7 +115,7 @@ symbol_at b at = record {
 -- so many symbols, one behind the other from a place on
 abbrev pub symbols_from : List ℕ → ℕ → ℕ → List Symbol
 symbols_from b at zero = []
-symbols_from b at (suc n) = symbol_at b at ∷ symbols_from b (at + 24) n
+symbols_from b at (suc n) = symbol_at b at ∷ symbols_from b (at + SYM_SIZE) n
 
 -- the string table
 abbrev pub strings_of : List ℕ → Tables → List ℕ
@@ -129,7 +132,7 @@ with_nul name = name ++ 0 ∷ []
 
 -- whether a symbol is defined and has a name
 abbrev pub is_named : List ℕ → List ℕ → Symbol → Bool
-is_named strings name s = not (s.section == 0) && stands_at strings (with_nul name) s.name
+is_named strings name s = not (s.section == SHN_UNDEF) && stands_at strings (with_nul name) s.name
 
 -- the value of the first such symbol
 abbrev pub value_among : List ℕ → List ℕ → List Symbol → Option ℕ
@@ -153,8 +156,13 @@ Stands strings text = (at : ℕ) × (stands_at strings text at ≡ true)
 
 -- both tables end at or below a place
 pub record EndBelow (size : ℕ) (t : Tables) : Type 0 where
-  pub symbols : t.at + 24 * t.count ≤ size
+  pub symbols : t.at + SYM_SIZE * t.count ≤ size
   pub strings : t.strings + t.length ≤ size
+
+-- the tables lie in the file of a name, where it is told, and every place in them is a number of 63 bits
+pub record HasTables (kept : Option FileMap) (name : List ℕ) (t : Tables) : Type 0 where
+  pub small : EndBelow (2 ^ 63) t
+  pub told : HasFile kept name (λ b. EndBelow (length b) t)
 
 abbrev pub FoundBelow : ℕ → Located → Type 0
 FoundBelow size (Part p) = Unit {0}

@@ -4,6 +4,7 @@ use Rattle.std.specs.Prelude.{◌≡◌, ℕ, ◌*◌, ◌^◌, ◌<◌, List, [
 use Rattle.std.specs.List.{flat_map}
 use Rattle.ap_fields.specs.Bytes.{Holds}
 use Rattle.ap_fields.specs.Fields.{bytes_of}
+use Rattle.ap_elf.specs.declared.constants.TheConstants.{EI_NIDENT, PHDR_SIZE}
 use Rattle.ap_elf.specs.declared.types.Header.{Header}
 use Rattle.ap_elf.specs.declared.types.Entry.{Entry}
 use Rattle.ap_elf.specs.Fields.{entries_from}
@@ -42,7 +43,7 @@ table_bytes entries = flat_map entry_bytes entries
 
 -- a header whose fields have their widths
 pub record HeaderFits (h : Header) : Type 0 where
-  pub ident : length h.ident ≡ 16
+  pub ident : length h.ident ≡ EI_NIDENT
   pub e_type : h.e_type < 256 ^ 2
   pub e_machine : h.e_machine < 256 ^ 2
   pub e_version : h.e_version < 256 ^ 4
@@ -72,10 +73,10 @@ abbrev pub EntriesFit : List Entry → Type 0
 EntriesFit [] = Unit {0}
 EntriesFit (p ∷ entries) = EntryFits p × EntriesFit entries
 
--- A program header table has 56 bytes for each program header, and a file that has it at a place has these program headers
+-- A program header table has so many bytes for each program header, and a file that has it at a place has these program headers
 -- there.
 pub record IsReadBack (entries : List Entry) : Type 0 where
-  pub size : length (table_bytes entries) ≡ 56 * length entries
+  pub size : length (table_bytes entries) ≡ PHDR_SIZE * length entries
   pub back : (w : List ℕ) (at : ℕ) → Holds w at (table_bytes entries) → entries_from w at (length entries) ≡ entries
 
 abbrev pub TablesAreReadBack : Type 0

@@ -2,31 +2,30 @@
 //! memory: the cell of an input at an address, and the ELF reading.
 #![tactic(auto)]
 
-mod compare;
-mod fault;
-mod file;
-mod kinds;
-mod located;
-mod located_file;
-mod lookup;
-mod lookup_file;
-mod machine;
-mod read;
-mod section;
-mod seen;
-mod strings;
-mod types;
-mod write;
+pub mod constants; // the numbers of the format
+mod types; // the structures, field by field
+mod machine; // the machines
+mod kinds; // the kinds of program headers, and what loads say
+mod fault; // why a file has no reading
+mod read; // the structures from bytes
+mod write; // the structures as bytes
+mod file; // the headers of a file
+mod section; // the rules on the sections of the symbols
+mod located; // where the symbols of a file are
+mod strings; // texts among a file's strings
+mod seen; // where a name stands among them
+mod compare; // a name at one place of them
+mod lookup; // the symbol of a name
+mod slice; // the symbols of bytes in memory
 
 pub use fault::{ElfCause, ElfFault};
 pub use file::{entries_in, header_in};
-pub use kinds::{is_dynamic, loads};
-pub use located::{locate, symbols_part};
-pub use located_file::locate_in;
-pub use lookup::{symbol, value};
-pub use lookup_file::symbol_in;
+pub use kinds::{is_dynamic, load_end, load_perms, loads};
+pub use located::locate_in;
+pub use lookup::symbol_in;
 pub use machine::Machine;
 pub use read::{entries, entry, header};
+pub use slice::{locate, symbol, symbols_part};
 pub use strings::stands_in_strings;
 pub use types::{Entry, Header, Located, Tables};
 pub use write::{entry_bytes, header_bytes, tables_are_read_back};

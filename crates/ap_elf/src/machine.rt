@@ -2,6 +2,8 @@
 ghost use Rattle.std.specs.Prelude.{◌≡◌};
 ghost use Rattle.ap_elf.specs.Machines.{granule_of, number_of};
 
+use crate::constants::{EM_AARCH64, EM_X86_64};
+
 /// A machine that a program is for.
 #[derive(Clone, Copy, Debug, PartialEq, Eq)]
 pub enum Machine {
@@ -27,8 +29,8 @@ impl Machine {
         ensures { result ≡ number_of self }
     {
         match self {
-            Machine::X64 => 62,
-            Machine::A64 => 183,
+            Machine::X64 => EM_X86_64,
+            Machine::A64 => EM_AARCH64,
         }
     }
 }

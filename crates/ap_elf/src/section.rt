@@ -1,34 +1,28 @@
-// Section headers, and the rules on those of the symbols.
-ghost use Rattle.std.specs.Prelude.{◌≡◌, ◌+◌, ◌*◌, ◌≤◌, nat_le, length, IfNone};
+// The rules on the sections of the symbols.
+ghost use Rattle.std.specs.Prelude.{◌≡◌, ◌+◌, ◌*◌, ◌≤◌, nat_le, IfNone};
 ghost use Rattle.ap_fields.specs.FirstFault.{first_fault};
-ghost use Rattle.ap_elf.specs.Symbols.{section_at, place_rules, table_rules, string_rules, tables_at, found_unless, FoundBelow};
+ghost use Rattle.ap_elf.specs.Symbols as symbols;
+ghost use Rattle.ap_elf.specs.Symbols.{place_rules, table_rules, string_rules, tables_at, found_unless, FoundBelow};
 
+use crate::constants::{SHDR_SIZE, SHT_STRTAB, SHT_SYMTAB, SYM_SIZE};
 use crate::types::{Header, Located, Section, Tables};
-use ap_fields::{le32, le64};
 
-#[tactic(auto, unfolding(crate::specs::Symbols::section_at))]
-pub(crate) fn section_from(b: &[u8], at: usize) -> Section
-    requires { at + 64 ≤ length b.now }
-    ensures { result ≡ section_at b.now at }
+/// Whether a section is a symbol table.
+pub(crate) fn is_symbol_table(s: &Section) -> bool
+    ensures { result ≡ symbols.is_symbol_table s.now }
 {
-    Section {
-        kind: le32(b, at + 4),
-        offset: le64(b, at + 24),
-        size: le64(b, at + 32),
-        link: le32(b, at + 40),
-        entsize: le64(b, at + 56),
-    }
+    s.kind == SHT_SYMTAB
 }
 
 /// The first part that fails of the section headers of a file of `size` bytes.
 pub(crate) fn place_fault(size: u64, h: &Header) -> Option<u8>
     ensures first { result ≡ first_fault (place_rules size h.now) }
-    ensures fits { IfNone result (h.now.e_shoff + 64 * h.now.e_shnum ≤ size) }
+    ensures fits { IfNone result (h.now.e_shoff + SHDR_SIZE * h.now.e_shnum ≤ size) }
 {
-    if h.e_shentsize != 64 {
+    if h.e_shentsize != SHDR_SIZE as u16 {
         return Some(1);
     }
-    if !fits(h.e_shoff, 64 * h.e_shnum as u64, size) {
+    if !fits(h.e_shoff, SHDR_SIZE as u64 * h.e_shnum as u64, size) {
         return Some(2);
     }
     None
@@ -39,13 +33,13 @@ pub(crate) fn table_fault(size: u64, t: &Section) -> Option<u8>
     ensures first { result ≡ first_fault (table_rules size t.now) }
     ensures fits { IfNone result (t.now.offset + t.now.size ≤ size) }
 {
-    if t.entsize != 24 {
+    if t.entsize != SYM_SIZE as u64 {
         return Some(3);
     }
     if !fits(t.offset, t.size, size) {
         return Some(4);
     }
-    if t.size % 24 != 0 {
+    if t.size % SYM_SIZE as u64 != 0 {
         return Some(5);
     }
     None
@@ -54,13 +48,14 @@ pub(crate) fn table_fault(size: u64, t: &Section) -> Option<u8>
 /// The tables, once both of their sections are known.
 pub(crate) fn found(size: u64, t: &Section, strings: Option<Section>) -> Located
     requires { t.now.offset + t.now.size ≤ size }
-    ensures is { result ≡ found_unless (first_fault (string_rules size strings)) (tables_at t.now strings) }
+    ensures is { result ≡ found_unless (first_fault (string_rules size strings))
+        (tables_at t.now strings) }
     ensures ends { FoundBelow size result }
 {
     let Some(s) = strings else {
         return Located::Part { part: 6 };
     };
-    if s.kind != 3 {
+    if s.kind != SHT_STRTAB {
         return Located::Part { part: 6 };
     }
     if !fits(s.offset, s.size, size) {
@@ -68,7 +63,7 @@ pub(crate) fn found(size: u64, t: &Section, strings: Option<Section>) -> Located
     }
     Located::At(Tables {
         at: t.offset,
-        count: t.size / 24,
+        count: t.size / SYM_SIZE as u64,
         strings: s.offset,
         length: s.size,
     })

@@ -1,14 +1,16 @@
 // The structures of an ELF file, field by field (System V gABI, "ELF Header", "Sections", "Symbol Table" and "Program
 // Header"), and where its symbols are.
 
+use crate::constants::EI_NIDENT;
+
 /// The ELF header, 64 bytes from the file's start.
 #[derive(Clone, Copy, Debug, Default, PartialEq, Eq)]
 pub struct Header {
     /// The file's mark, its class, its byte order and its versions.
-    pub ident: [u8; 16],
-    /// What the file is: 2 for a program at fixed addresses.
+    pub ident: [u8; EI_NIDENT],
+    /// What the file is: [`crate::constants::ET_EXEC`] for a program at fixed addresses.
     pub e_type: u16,
-    /// The machine: 62 for x86-64, 183 for AArch64.
+    /// The machine, as [`crate::constants::EM_X86_64`].
     pub e_machine: u16,
     /// The version of the format, 1.
     pub e_version: u32,
@@ -37,7 +39,7 @@ pub struct Header {
 /// One program header, 56 bytes: an entry of the program header table.
 #[derive(Clone, Copy, Debug, Default, PartialEq, Eq)]
 pub struct Entry {
-    /// What the entry is (`p_type`): 1 for a part of the file that is loaded.
+    /// What the entry is (`p_type`), as [`crate::constants::PT_LOAD`].
     pub kind: u32,
     /// Its permissions (`p_flags`): 1 execute, 2 write, 4 read.
     pub flags: u32,
@@ -58,7 +60,7 @@ pub struct Entry {
 /// What is looked at of a section header, 64 bytes.
 #[derive(Clone, Copy)]
 pub(crate) struct Section {
-    /// What the section is (`sh_type`): 2 for a symbol table, 3 for strings.
+    /// What the section is (`sh_type`), as [`crate::constants::SHT_SYMTAB`].
     pub kind: u32,
     /// The place of its first byte in the file.
     pub offset: u64,

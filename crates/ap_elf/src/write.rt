@@ -5,16 +5,17 @@ ghost use Rattle.ap_elf.specs.Fields.{header_of, entry_at};
 ghost use Rattle.ap_elf.specs.Written as spec;
 ghost use Rattle.ap_elf.specs.Written.{TablesAreReadBack};
 
+use crate::constants::{EHDR_SIZE, EI_NIDENT, PHDR_SIZE};
 use crate::types::{Entry, Header};
 use ap_fields::{put16, put32, put64};
 
 /// The bytes of an ELF header (System V gABI, "ELF Header"). A file that has them at its start has this header.
-pub fn header_bytes(h: &Header) -> [u8; 64]
+pub fn header_bytes(h: &Header) -> [u8; EHDR_SIZE]
     ensures bytes { result ≡ spec.header_bytes h.now }
     ensures back { (w : List ℕ) → Holds w 0 result → header_of w ≡ h.now }
 {
-    let mut bytes = [0; 64];
-    bytes[..16].copy_from_slice(&h.ident);
+    let mut bytes = [0; EHDR_SIZE];
+    bytes[..EI_NIDENT].copy_from_slice(&h.ident);
     put16(&mut bytes, 16, h.e_type);
     put16(&mut bytes, 18, h.e_machine);
     put32(&mut bytes, 20, h.e_version);
@@ -33,11 +34,11 @@ pub fn header_bytes(h: &Header) -> [u8; 64]
 
 /// The bytes of a program header (System V gABI, "Program Header"). A file that has them at a place has this program
 /// header there.
-pub fn entry_bytes(p: &Entry) -> [u8; 56]
+pub fn entry_bytes(p: &Entry) -> [u8; PHDR_SIZE]
     ensures bytes { result ≡ spec.entry_bytes p.now }
     ensures back { (w : List ℕ) (at : ℕ) → Holds w at result → entry_at w at ≡ p.now }
 {
-    let mut bytes = [0; 56];
+    let mut bytes = [0; PHDR_SIZE];
     put32(&mut bytes, 0, p.kind);
     put32(&mut bytes, 4, p.flags);
     put64(&mut bytes, 8, p.offset);

@@ -13,8 +13,7 @@ ghost use Rattle.ap_elfmap.specs.ElfPlans.{Checks, region_of, elf_plan_by};
 use crate::entries::check_dynamic;
 use crate::fault::{check, fault};
 use crate::loads::regions;
-use ap_elf::Machine;
-use ap_elf::{ElfCause, ElfFault, Entry, Header, loads};
+use ap_elf::{ElfCause, ElfFault, Entry, Header, Machine, loads};
 use ap_image::{Plan, Region};
 use arrayvec::ArrayVec;
 

@@ -11,12 +11,9 @@ ghost use Rattle.ap_elf.specs.Machines.{IsPage};
 ghost use Rattle.ap_elfmap.specs.ElfPlans.{Looks, elf_plan, elf_plan_by};
 ghost use Rattle.ap_elfmap.specs.Laws.{cells-by, frame-elf, page-granule};
 
-use crate::entries::entries_over;
-use crate::fault::fault;
-use crate::header::{check_header, header_over};
-use crate::plan::plan_by;
-use ap_elf::Machine;
-use ap_elf::{ElfCause, ElfFault};
+use crate::file::read_with_in;
+use ap_elf::{ElfFault, Machine};
+use ap_files::SliceFiles;
 use ap_image::{Plan, Reading};
 
 /// The reading of ELF files for a machine, at a page size of it: 4096 bytes, or also 16384 for AArch64.
@@ -43,10 +40,12 @@ impl Reading for ElfReading {
 
     ghost looks = { λ r f. Looks f };
 
+    #[tactic(auto, using(ap_files::proofs::SliceLemmas::slice_steps))]
     fn read(&self, file: &[u8]) -> Result<Plan, ElfFault> {
-        match file.first_chunk() {
-            Some(header) => read_with(self.machine, self.page, header, file),
-            None => Err(fault(ElfCause::Short, 0, file.len() as u64)),
+        let mut files = SliceFiles { bytes: file };
+        match self.read_in(&mut files, "", file.len() as u64) {
+            Ok(plan) => plan,
+            Err(_) => unreachable!(),
         }
     }
 
@@ -58,7 +57,7 @@ impl Reading for ElfReading {
 /// The reading of a file whose first 64 bytes are replaced by `header`. The program header table is read in the replaced
 /// file, too, wherever it begins; the bytes that the plan's regions show are the file's own. A file of fewer than 64 bytes
 /// is `Short`.
-#[tactic(auto, using(ap_fields::proofs::FirstFaults::join_steps), unfolding(ap_elf::specs::Fields::entries_of))]
+#[tactic(auto, using(ap_files::proofs::SliceLemmas::slice_steps))]
 pub fn read_with(
     machine: Machine,
     page: u64,
@@ -70,9 +69,9 @@ pub fn read_with(
     ensures image { IsPlanOf result file.now (elf_reading_by (number_of machine) page (length file.now) (header_of (over file.now header.now)) (entries_of (over file.now header.now)) (bytes_in file.now)) }
     ensures backed { IfOk result (λ plan. AreBacked plan.regions (length file.now)) }
 {
-    let size = file.len() as u64;
-    let h = header_over(header, file);
-    check_header(&h, size, machine.number())?;
-    let entries = entries_over(header, file, h.e_phoff as usize, h.e_phnum);
-    plan_by(machine, page, size, &h, &entries)
+    let mut files = SliceFiles { bytes: file };
+    match read_with_in(machine, page, header, &mut files, "", file.len() as u64) {
+        Ok(plan) => plan,
+        Err(_) => unreachable!(),
+    }
 }

@@ -1,7 +1,9 @@
 -- What stands at a place of a list that is made of parts.
-use Rattle.std.proofs.Common.{◌≡◌, ℕ, zero, suc, ◌+◌, ◌<◌, ◌≤◌, List, ◌∷◌, ◌++◌, length, get_or, take, drop, refl, sym, ap, ◌∙◌, arith, length-append, add-zero}
+use Rattle.std.proofs.Common.{◌≡◌, ℕ, zero, suc, ◌+◌, ◌^◌, ◌<◌, ◌≤◌, List, [], ◌∷◌, ◌++◌, length, get_or, slice_index, append-nil, take, drop, refl, sym, ap, ◌∙◌, arith, length-append, add-zero}
 use Rattle.std.proofs.lemmas.List.{get_or-append-add, get_or_append_left, length-replicate, drop_more}
 use Rattle.ap_fields.specs.Bytes.{zeros, listed, Holds}
+use Rattle.ap_fields.specs.Fields.{number_at, bytes_of}
+use Rattle.ap_fields.proofs.Numbers.{number_at-same, number_at-bytes_of, length-bytes_of}
 
 pub length-zeros : (n : ℕ) → length (zeros n) ≡ n
 unfolding zeros
@@ -41,3 +43,32 @@ holds-part front part behind at is = record {
       ∙ get_or-append-add front (part ++ behind) k 0
       ∙ get_or_append_left part behind 0 k h;
 }
+
+-- the part of a file that holds the first of two lists, and the part behind it
+pub holds-front : (w : List ℕ) (at : ℕ) (part rest : List ℕ) → Holds w at (part ++ rest) → Holds w at part
+holds-front w at part rest h =
+    let len = length-append part rest in
+    let fits = h.fits in
+    record {
+      fits = omega arith;
+      same = λ k l. h.same k (omega arith) ∙ get_or_append_left part rest 0 k l;
+    }
+
+pub holds-behind : (w : List ℕ) (at next : ℕ) (part rest : List ℕ) → next ≡ at + length part → Holds w at (part ++ rest) → Holds w next rest
+holds-behind w at next part rest is h =
+    let len = length-append part rest in
+    let fits = h.fits in
+    record {
+      fits = omega arith;
+      same = λ k l. let place : next + k ≡ at + (length part + k) = omega arith in
+          ap (λ i. slice_index w i) place ∙ h.same (length part + k) (omega arith) ∙ get_or-append-add part rest k 0;
+    }
+
+-- a number that a file holds reads as itself
+pub number_at-holds : (n x at : ℕ) (w : List ℕ) → x < 256 ^ n → Holds w at (bytes_of n x) → number_at n at w ≡ x
+number_at-holds n x at w small h =
+    let len = length-bytes_of n x in
+    let all : bytes_of n x ++ [] ≡ bytes_of n x = append-nil (bytes_of n x) in
+    number_at-same n at 0 w (bytes_of n x) (λ i l. h.same i (omega arith) ∙ ap (λ k. slice_index (bytes_of n x) k) (omega arith))
+    ∙ ap (number_at n 0) (sym all)
+    ∙ number_at-bytes_of n x [] small

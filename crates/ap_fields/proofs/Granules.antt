@@ -1,5 +1,5 @@
 -- Rounding to a granule.
-use Rattle.std.proofs.Common.{inl, inr, ◌≡◌, ℕ, ◌+◌, ◌*◌, ◌<◌, ◌-◌, ◌/◌, ◌%◌, refl, ap, ◌∙◌, arith}
+use Rattle.std.proofs.Common.{inl, inr, ◌≡◌, ℕ, ◌+◌, ◌*◌, ◌<◌, ◌≤◌, ◌-◌, ◌/◌, ◌%◌, refl, ap, ◌∙◌, arith}
 use Rattle.std.proofs.lemmas.Nat.{div-add-mod', div-mul-add, pow_pos}
 use Rattle.ap_fields.specs.Granules.{IsPowerOfTwo, IsGranule, ceil_of}
 
@@ -18,6 +18,16 @@ pub ruleset powers = (power-4096, power-16384, granule_power)
 
 pub power_pos : (g : ℕ) → IsPowerOfTwo g → 0 < g
 power_pos g (k, e) = rw e (pow_pos k)
+
+pub granule_pos : (g : ℕ) → IsGranule g → 0 < g
+granule_pos g is = power_pos g (granule_power g is)
+
+-- rounded up, a number is no less
+pub ceil_of-least : (a g : ℕ) → IsGranule g → a ≤ ceil_of a g
+ceil_of-least a g is =
+    let pos = granule_pos g is in
+    let whole = div-add-mod' (a + g - 1) g in
+    omega arith
 
 -- a multiple is rounded up to itself
 pub ceil_of-multiple : (a g : ℕ) → 0 < g → a % g ≡ 0 → ceil_of a g ≡ a

@@ -1,5 +1,6 @@
 -- How `number_at` and `bytes_of` read each other, and how they go over lists that are joined.
 use Rattle.std.proofs.Common.{◌≡◌, ℕ, zero, suc, ◌+◌, ◌*◌, ◌^◌, ◌<◌, ◌≤◌, ◌-◌, List, ◌++◌, length, take, drop, slice_index, refl, sym, ap, ◌∙◌, arith, length-drop, add_assoc, append_assoc, append-nil, []}
+use Rattle.std.specs.Int.{byte_at}
 use Rattle.std.proofs.lemmas.List.{get_or-drop, get_or_append_left, get_or-append-add, drop-drop, length-take-le, drop_all, take_rest}
 use Rattle.std.proofs.Math.Nat.{pow-suc}
 use borrow.Rule.Slice.PartMut.{put_mid}
@@ -100,3 +101,8 @@ write_to n at x b part fits small e =
     ∙ sym (append_assoc (take at b) (bytes_of n x) (drop (at + n) b))
     ∙ ap (λ k. take at b ++ bytes_of n x ++ drop (at + k) b) (sym len) in
     record { field = ap (number_at n at) same ∙ number_at-patched n at x b fits small; bytes = same }
+
+-- a byte of a number is one
+pub byte_at-lt : (i x : ℕ) → byte_at i x < 256
+byte_at-lt zero x = omega arith
+byte_at-lt (suc i) x = omega arith

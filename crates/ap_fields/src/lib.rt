@@ -2,11 +2,11 @@
 //! and the sizes of the file format that several crates speak of.
 #![tactic(auto)]
 
-mod decimal;
-mod granule;
-mod number;
-mod perms;
-mod sizes;
+mod number; // numbers in bytes
+mod decimal; // numbers in decimal digits
+mod granule; // addresses on granules
+mod perms; // permissions
+mod sizes; // sizes of the file format
 
 pub use decimal::put_decimal;
 pub use granule::{ceil_to, floor_to};

@@ -1,8 +1,8 @@
 -- What follows from the answers of reads.
-use Rattle.std.proofs.Common.{◌≡◌, ◌⊎◌, inl, inr, ℕ, ◌+◌, ◌≤◌, List, length, Option, Some, None, Ok, Err, refl, sym, ap, ◌∙◌, arith, subst}
+use Rattle.std.proofs.Common.{◌≡◌, ◌⊎◌, inl, inr, ℕ, ◌+◌, ◌≤◌, List, length, Option, Some, None, Result, Ok, Err, refl, sym, ap, ◌∙◌, arith, subst}
 use Rattle.std.specs.FinMap as map
-use Rattle.ap_files.specs.Files.{FileMap, FileState, Rose, Measures, KeepsFiles, KeepsCounts, HasRange}
-use Rattle.ap_files.specs.Reads.{HasFile, HasSize, IsMissing, Unread}
+use Rattle.ap_files.specs.Files.{FileMap, FileState, ForFile, Rose, Measures, KeepsFiles, KeepsCounts, HasRange}
+use Rattle.ap_files.specs.Reads.{HasFile, HasSize, IsMissing, Reads, ReadFails, Unread}
 use Rattle.ap_files.specs.declared.failure.Failed.{Failed}
 
 pub some_same : {X : Type 0} {x y : X} → Some x ≡ Some y → x ≡ y
@@ -54,3 +54,9 @@ unread_by old new name e (Some m) h k = unread_in old new name e m (map.get m na
 
 pub size_unread : (old new : FileState) (name : List ℕ) (e : Failed) → Measures old new name (Err e) → Unread old new name
 size_unread old new name e r = record { files = r.files; write_faults = r.write_faults; cause = unread_by old new name e old.kept r refl }
+
+-- a call that reads, behind another that left the state
+pub reads-after : {T : Type 0} (old mid new : FileState) (name : List ℕ) (P Q : List ℕ → T → Type 0) (result : Result T Failed) → mid ≡ old
+    → ForFile old.kept name (λ b. (v : T) → P b v → Q b v) → Reads mid new name P result → Reads old new name Q result
+reads-after old mid new name P Q (Ok v) e f r = (r.0 ∙ e, λ m b told at. f m b told at v (r.1 m b (ap (λ (s : FileState). s.kept) e ∙ told) at))
+reads-after old mid new name P Q (Err x) e f r = subst (λ (s : FileState). ReadFails s new) e r

@@ -1,5 +1,5 @@
 -- Runs of regions: how many there are, which addresses they have, and that they are apart.
-use Rattle.std.proofs.Common.{◌≡◌, ℕ, zero, suc, ◌+◌, ◌^◌, ◌≤◌, ◌<◌, ◌&&◌, nat_le, nat_lt, Bool, false, if◌then◌else◌, List, [], ◌∷◌, length, get_or, Option, Some, refl, ap, ◌∙◌, arith, inl, inr}
+use Rattle.std.proofs.Common.{◌≡◌, ℕ, zero, suc, ◌+◌, ◌^◌, ◌≤◌, ◌<◌, ◌&&◌, nat_le, nat_lt, false, if◌then◌else◌, List, [], ◌∷◌, length, get_or, Option, Some, refl, ap, ◌∙◌, arith, inl, inr}
 use Rattle.std.proofs.lemmas.Bool.{cases_Bool}
 use Rattle.std.proofs.lemmas.Bool.Decides.{nat_tests}
 use Rattle.ap_image.specs.declared.plan.Region.{Region}
@@ -28,9 +28,6 @@ pub end-top : (low : ℕ) (regions : List Region) (i : ℕ) (d : Region) → Are
 end-top low [] i d h l = absurd (omega arith)
 end-top low (r ∷ regions) zero d h l = ascending-top (end_of r) regions h.2
 end-top low (r ∷ regions) (suc i) d h l = end-top (end_of r) regions i d h.2 (omega arith)
-
-has : Run → ℕ → Bool
-has run a = nat_le run.start a && nat_lt a (run.start + run.length)
 
 -- a run that goes on through a region has the addresses of both
 joined-has : (start len from span : ℕ) (a p q : ℕ) (rest : Option ℕ) → start + len ≡ from → p ≡ q

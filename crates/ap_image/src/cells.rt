@@ -4,8 +4,8 @@ ghost use Rattle.ap_fields.specs.Readings.{bytes_in};
 ghost use Rattle.ap_image.specs.Plans.{AreAscendingFrom, AreBacked, end_of, region_byte, cell_in, cell_of};
 ghost use Rattle.ap_image.specs.declared.plan.Region.{Region};
 
-use ap_fields::Perms;
 use crate::plan::{Plan, Region};
+use ap_fields::Perms;
 
 /// The byte and the permissions at the address `a` of a plan over a file: the byte of the file that the region of `a`
 /// shows there, or 0 behind what it shows of the file. `None` exactly where no region has `a`.
@@ -27,8 +27,10 @@ pub fn cell(plan: &Plan, file: &[u8], a: u64) -> Option<(u8, Perms)>
 fn ended(regions: &[Region], a: u64) -> usize
     requires { AreAscendingFrom 0 regions.now }
     ensures few { result ≤ length regions.now }
-    ensures before { (byte : ℕ → ℕ) → cell_in byte (drop result regions.now) a ≡ cell_in byte regions.now a }
-    ensures behind { (r : Region) (rest : List Region) → drop result regions.now ≡ r ∷ rest → a < end_of r }
+    ensures before { (byte : ℕ → ℕ) → cell_in byte (drop result regions.now) a ≡ cell_in byte
+        regions.now a }
+    ensures behind { (r : Region) (rest : List Region) → drop result regions.now ≡ r ∷ rest → a <
+        end_of r }
 {
     let mut low = 0;
     let mut high = regions.len();

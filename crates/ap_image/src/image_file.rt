@@ -1,10 +1,9 @@
 // The image file of a plan.
-ghost use Rattle.std.specs.Prelude.{◌≡◌, ◌≤◌, ◌<◌, ◌+◌, ◌-◌, ◌*◌, ◌++◌, ◌^◌, length, flat_map, Ok, Err, OnOk, IfOk, IfErr};
+ghost use Rattle.std.specs.Prelude.{◌≡◌, ◌≤◌, ◌<◌, ◌+◌, ◌-◌, ◌++◌, ◌^◌, length, flat_map, Ok, Err, OnOk, IfOk, IfErr};
 ghost use Rattle.ap_fields.specs.Readings.{bytes_in};
 ghost use Rattle.ap_fields.specs.Bytes.{zeros};
 ghost use Rattle.ap_fields.specs.Fields.{bytes_of};
 ghost use Rattle.ap_image.specs.Plans.{AreAscendingFrom, AreBacked, IsRegion};
-ghost use Rattle.ap_image.specs.Runs.{runs_of};
 ghost use Rattle.ap_image.specs.ImageFiles.{total_of, run_line, image_head, region_bytes, image_file};
 
 use crate::plan::{Plan, Region};
@@ -32,8 +31,10 @@ pub enum DumpFault {
 pub fn dump(alloc: Global, plan: &Plan, file: &[u8]) -> Result<Vec<u8>, DumpFault>
     requires { AreBacked plan.now.regions (length file.now) }
     ensures bytes { IfOk result (λ image. image.items ≡ image_file (bytes_in file.now) plan.now) }
-    ensures wide { 2 ^ 30 < total_of plan.now.regions → result ≡ Err (DumpFault.Wide (total_of plan.now.regions)) }
-    ensures narrow { IfErr result (λ fault. total_of plan.now.regions ≤ 2 ^ 30 → fault ≡ DumpFault.NoMemory) }
+    ensures wide { 2 ^ 30 < total_of plan.now.regions → result ≡ Err
+        (DumpFault.Wide (total_of plan.now.regions)) }
+    ensures narrow { IfErr result
+        (λ fault. total_of plan.now.regions ≤ 2 ^ 30 → fault ≡ DumpFault.NoMemory) }
 {
     let total = address_count(plan);
     if total > 1 << 30 {
@@ -78,7 +79,9 @@ fn written(alloc: Global, plan: &Plan, file: &[u8]) -> Result<Vec<u8>, AllocErro
 #[tactic(auto, using(std::proofs::Common::append_assoc))]
 fn push_table(out: &mut Vec<u8>, entry: u64, runs: &[Run]) -> Result<(), AllocError>
     requires { length runs.now < 2 ^ 32 }
-    ensures { OnOk result (out.new.items ≡ out.old.items ++ (image_head entry (length runs.now) ++ flat_map run_line runs.now)) }
+    ensures { OnOk result
+        (out.new.items ≡ out.old.items ++
+        (image_head entry (length runs.now) ++ flat_map run_line runs.now)) }
 {
     push_head(out, entry, runs.len() as u32)?;
     for run in runs {
@@ -125,7 +128,8 @@ fn push64(out: &mut Vec<u8>, v: u64) -> Result<(), AllocError>
 fn push_regions(out: &mut Vec<u8>, regions: &[Region], file: &[u8]) -> Result<(), AllocError>
     requires regions { AreAscendingFrom 0 regions.now }
     requires backed { AreBacked regions.now (length file.now) }
-    ensures { OnOk result (out.new.items ≡ out.old.items ++ flat_map (region_bytes (bytes_in file.now)) regions.now) }
+    ensures { OnOk result
+        (out.new.items ≡ out.old.items ++ flat_map (region_bytes (bytes_in file.now)) regions.now) }
 {
     for r in regions {
         push_region(out, r, file)?;
@@ -138,7 +142,8 @@ fn push_regions(out: &mut Vec<u8>, regions: &[Region], file: &[u8]) -> Result<()
 fn push_region(out: &mut Vec<u8>, r: &Region, file: &[u8]) -> Result<(), AllocError>
     requires region { IsRegion r.now }
     requires backed { r.now.at + r.now.backed ≤ length file.now }
-    ensures { OnOk result (out.new.items ≡ out.old.items ++ region_bytes (bytes_in file.now) r.now) }
+    ensures { OnOk result
+        (out.new.items ≡ out.old.items ++ region_bytes (bytes_in file.now) r.now) }
 {
     let from = r.at as usize;
     let part = &file[from..from + r.backed as usize];

@@ -18,11 +18,14 @@ pub struct Region {
     pub perms: Perms,
 }
 
+/// The most regions of a plan: those of the 96 sections that a PE file has at most, and that of its headers.
+pub const MOST_REGIONS: usize = 96 + 1;
+
 /// What a file puts into memory: regions that ascend, don't overlap and end at or below 2^47, and where the program
 /// starts.
 #[derive(Drop)]
 pub struct Plan {
-    pub regions: ArrayVec<Region, 97>,
+    pub regions: ArrayVec<Region, MOST_REGIONS>,
     /// The address at which the program starts. It needn't be in a region.
     pub entry: u64,
 }

@@ -42,6 +42,8 @@ pub trait Reading {
 /// looks: they have the same plan or the same refusal; and if they agree on the bytes that the first file's plan shows,
 /// too, they put the same into memory.
 pub fn reads_alike<R: Reading>()
-    ensures plans { (r : R) (f g : List ℕ) → R.is_well_formed r → length f ≡ length g → AgreeAt (R.looks r f) f g → R.plan r f ≡ R.plan r g }
-    ensures images { (r : R) (f g : List ℕ) → R.is_well_formed r → length f ≡ length g → AgreeAt (R.looks r f) f g → AgreeOnPlan (R.plan r f) f g → R.reading r f ≡ R.reading r g }
+    ensures plans { (r : R) (f g : List ℕ) → R.is_well_formed r → length f ≡ length g → AgreeAt
+        (R.looks r f) f g → R.plan r f ≡ R.plan r g }
+    ensures images { (r : R) (f g : List ℕ) → R.is_well_formed r → length f ≡ length g → AgreeAt
+        (R.looks r f) f g → AgreeOnPlan (R.plan r f) f g → R.reading r f ≡ R.reading r g }
 {}

@@ -1,11 +1,11 @@
 // Runs: regions that touch and have equal permissions, as one.
-ghost use Rattle.std.specs.Prelude.{◌≡◌, ℕ, IfOk, OnOk};
+ghost use Rattle.std.specs.Prelude.{◌≡◌, ℕ, IfOk};
 ghost use Rattle.ap_image.specs.Plans.{AreAscendingFrom};
 ghost use Rattle.ap_image.specs.Runs as spec;
 ghost use Rattle.ap_image.specs.Runs.{runs_of, AreApart, perms_in, perms_at};
 
-use ap_fields::Perms;
 use crate::plan::{Plan, Region};
+use ap_fields::Perms;
 use ap_files::NoMemory;
 use std::alloc::{AllocError, Global};
 
@@ -23,7 +23,8 @@ pub struct Run {
 #[tactic(auto, using(crate::proofs::RunLemmas::run_steps))]
 pub fn runs(alloc: Global, plan: &Plan) -> Result<Vec<Run>, NoMemory>
     ensures joined { IfOk result (λ runs. runs.items ≡ runs_of plan.now.regions) }
-    ensures addresses { IfOk result (λ runs. (a : ℕ) → perms_in runs.items a ≡ perms_at plan.now.regions a) }
+    ensures addresses { IfOk result
+        (λ runs. (a : ℕ) → perms_in runs.items a ≡ perms_at plan.now.regions a) }
     ensures apart { IfOk result (λ runs. AreApart runs.items) }
 {
     joined(alloc, plan.regions.as_slice()).map_err(|_| NoMemory)

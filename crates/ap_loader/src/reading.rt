@@ -10,7 +10,7 @@ ghost use Rattle.ap_loader.specs.Laws.{cells-ape, frame-ape};
 use crate::fault::ApeFault;
 use crate::header::{embedded, has_magic};
 use ap_elf::Machine;
-use ap_elfmap::read_with;
+use ap_files::SliceFiles;
 use ap_image::{Plan, Reading};
 
 /// The reading of APE files for a machine, at a page size of it: 4096 bytes, or also 16384 for AArch64.
@@ -36,12 +36,12 @@ impl Reading for ApeReading {
 
     ghost looks = { λ r f. Looks (number_of r.machine) f };
 
+    #[tactic(auto, using(ap_files::proofs::SliceLemmas::slice_steps))]
     fn read(&self, file: &[u8]) -> Result<Plan, ApeFault> {
-        match header_for(file, self.machine) {
-            Ok(header) => {
-                read_with(self.machine, self.page, &header, file).map_err(ApeFault::Elf)
-            }
-            Err(fault) => Err(fault),
+        let mut files = SliceFiles { bytes: file };
+        match self.read_in(&mut files, "", file.len() as u64) {
+            Ok(plan) => plan,
+            Err(_) => unreachable!(),
         }
     }
 

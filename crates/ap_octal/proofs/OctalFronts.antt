@@ -1,16 +1,13 @@
 -- The front of octal text, by what stands at its first places.
-use Rattle.std.proofs.Common.{◌≡◌, ◌≢◌, ℕ, ◌+◌, ◌*◌, ◌<◌, ◌≤◌, List, [], ◌∷◌, length, drop, slice_index, refl, sym, subst, arith}
+use Rattle.std.proofs.Common.{◌≡◌, ℕ, ◌+◌, ◌*◌, ◌<◌, ◌≤◌, List, [], ◌∷◌, length, drop, slice_index, refl, sym, subst, arith}
 use Rattle.ap_octal.specs.OctalText.{IsPlain, EndsDigits, octal1, octal2, octal3}
-use Rattle.ap_octal.specs.OctalSteps.{Splits, Begins, HasDigit, IsNoOctal}
-use Rattle.ap_octal.proofs.OctalSplits.{splits-plain, splits-one, splits-two, splits-three, none-plain, none-digit, none-three}
+use Rattle.ap_octal.specs.OctalSteps.{Splits, Begins, HasDigit}
+use Rattle.ap_octal.proofs.OctalSplits.{splits-plain, splits-one, splits-two, splits-three}
 
 -- the first byte and the byte that it stands for under other names
 renamed : (m n b d : ℕ) (text rest : List ℕ) → m ≡ n → b ≡ d → Splits (n ∷ text) (d ∷ []) rest → Splits (m ∷ text) (b ∷ []) rest
 renamed m n b d text rest first byte s =
     subst (λ x. Splits (x ∷ text) (b ∷ []) rest) (sym first) (subst (λ x. Splits (n ∷ text) (x ∷ []) rest) (sym byte) s)
-
-renamed-none : (m n : ℕ) (text : List ℕ) → m ≡ n → IsNoOctal (n ∷ text) → IsNoOctal (m ∷ text)
-renamed-none m n text first none = subst (λ x. IsNoOctal (x ∷ text)) (sym first) none
 
 pub begins-plain : (text : List ℕ) (b : ℕ) → 0 < length text → b ≡ slice_index text 0 → IsPlain b → Begins text b 1
 begins-plain [] b some is plain = absurd (omega arith)
@@ -58,22 +55,3 @@ begins-three (m ∷ a ∷ b ∷ c ∷ text) d e f first x y z small =
       splits = renamed m 92 ((d * 8 + e) * 8 + f) (octal3 a b c) (a ∷ b ∷ c ∷ text) text first (omega arith)
           (splits-three a b c text x.is_digit y.is_digit z.is_digit (omega arith));
     }
-
-pub none-first : (text : List ℕ) → 0 < length text → ¬ IsPlain (slice_index text 0) → slice_index text 0 ≢ 92 → IsNoOctal text
-none-first [] some bad other = absurd (omega arith)
-none-first (c ∷ text) some bad other = none-plain c text bad other
-
-pub none-second : (text : List ℕ) → 0 < length text → slice_index text 0 ≡ 92 → EndsDigits (drop 1 text) → IsNoOctal text
-none-second [] some first ends = absurd (omega arith)
-none-second (m ∷ text) some first ends = renamed-none m 92 text first (none-digit text ends)
-
-pub none-big : (text : List ℕ) (d e f : ℕ) → slice_index text 0 ≡ 92 → HasDigit text 1 d → HasDigit text 2 e → HasDigit text 3 f → 255 < (d * 8 + e) * 8 + f → IsNoOctal text
-none-big [] d e f first x y z big = absurd (let w = z.within in omega arith)
-none-big (m ∷ []) d e f first x y z big = absurd (let w = z.within in omega arith)
-none-big (m ∷ a ∷ []) d e f first x y z big = absurd (let w = z.within in omega arith)
-none-big (m ∷ a ∷ b ∷ []) d e f first x y z big = absurd (let w = z.within in omega arith)
-none-big (m ∷ a ∷ b ∷ c ∷ text) d e f first x y z big =
-    let v = x.value in
-    let w = y.value in
-    let u = z.value in
-    renamed-none m 92 (a ∷ b ∷ c ∷ text) first (none-three a b c text y.is_digit z.is_digit (omega arith))

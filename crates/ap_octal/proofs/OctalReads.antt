@@ -128,10 +128,3 @@ octal_bytes_of-some text bytes h = found-says text bytes (octal_bytes_of text) (
 
 pub octal_bytes_of-back : (text bytes : List ℕ) → octal_bytes_of text ≡ Some bytes → IsOctal text bytes
 octal_bytes_of-back text bytes h = subst (λ found. Reads text found) h (octal_bytes_of-says text)
-
-none-says : (text : List ℕ) (found : Option (List ℕ)) → Reads text found → IsNoOctal text → found ≡ None
-none-says text None none h = refl
-none-says text (Some bytes) octal h = absurd (h bytes octal)
-
-pub octal_bytes_of-none : (text : List ℕ) → IsNoOctal text → octal_bytes_of text ≡ None
-octal_bytes_of-none text h = none-says text (octal_bytes_of text) (octal_bytes_of-says text) h

@@ -24,7 +24,8 @@ pub fn statements(file: &[u8], from: usize) -> Option<usize>
 pub(crate) fn closing_quote(file: &[u8], from: usize) -> Option<usize>
     requires within { from ≤ WINDOW }
     requires fits { from ≤ length file.now }
-    ensures { MatchOption result ((end : ℕ) → ¬ Closes file.now from end) (λ end. Closes file.now from end) }
+    ensures { MatchOption result ((end : ℕ) → ¬ Closes file.now from end)
+        (λ end. Closes file.now from end) }
 {
     let place = memchr(b'\'', &window_of(file)[from..])?;
     Some(from + place)

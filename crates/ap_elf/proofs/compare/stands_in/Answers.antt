@@ -3,7 +3,7 @@ use Rattle.std.specs.Str.{bytes_eq}
 use Rattle.ap_files.proofs.ReadLemmas.{told_of}
 use Rattle.ap_elf.specs.Symbols.{strings_of, stands_at, with_nul}
 use Rattle.ap_elf.proofs.Comparing.{stands_at-file}
-use Rattle.ap_elf.proofs.Reading.{reads-after}
+use Rattle.ap_files.proofs.ReadLemmas.{reads-after}
 use Rattle.ap_elf.proofs.compare.stands_in.Goals as goal
 
 pub returns-in-Ok-true : goal.returns-in-Ok-true

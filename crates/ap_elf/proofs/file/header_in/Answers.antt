@@ -3,8 +3,8 @@ use Rattle.ap_files.proofs.ReadLemmas.{same_state}
 use Rattle.ap_elf.proofs.EntryTables.{header-read}
 use Rattle.ap_elf.proofs.file.header_in.Goals as goal
 
-pub returns-in-Ok : goal.returns-in-Ok
-returns-in-Ok g c = (
-  same_state (g.F.Files.state c.args.files.now) (g.F.Files.state c.read_at.new.self) c.in-Ok.ensures.files c.in-Ok.ensures.ok,
-  λ m b told at. c.header.ensures ∙ header-read b c.read_at.new.buf (c.in-Ok.ensures.bytes m b told at),
+pub returns : goal.returns
+returns g c = (
+  same_state (g.F.Files.state c.args.files.now) (g.F.Files.state c.read_at.new.self) c.in_ok-read_at.ensures.files c.in_ok-read_at.ensures.ok,
+  λ m b told at. c.header.ensures ∙ header-read b c.read_at.new.buf (c.in_ok-read_at.ensures.bytes m b told at),
 )

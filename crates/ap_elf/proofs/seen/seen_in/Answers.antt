@@ -13,7 +13,7 @@ returns-in-Ok g c =
     let again = c.in-Ok.ensures.first in (
       again.0 ∙ first.0,
       λ m b told at k below.
-          let long = length-strings b t (told_of (g.F.Files.state c.args.files.now).kept c.args.name.now m b c.requires.told told at) in
+          let long = length-strings b t (told_of (g.F.Files.state c.args.files.now).kept c.args.name.now m b c.requires.tables.told told at) in
           seen-places (strings_of b t) c.args.text.now c.in-Ok-Some.first t.length k c.in-Ok.other (sym long) (first.1 m b told at)
           (again.1 m b (ap (λ (s : FileState). s.kept) first.0 ∙ told) at) (subst (λ x. k < x) c.unwrap_or.ensures below),
     )

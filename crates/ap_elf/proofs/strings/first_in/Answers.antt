@@ -18,7 +18,7 @@ loop-at-preserved g c =
       low = omega arith;
       high = omega arith;
       before = λ m b told at.
-          let len = length-strings b t (told_of (g.F.Files.state c.args.files.now).kept c.args.name.now m b c.requires.told told at) in
+          let len = length-strings b t (told_of (g.F.Files.state c.args.files.now).kept c.args.name.now m b c.requires.tables.told told at) in
           search-next (strings_of b t) c.args.text.now c.loop-at.at n (omega arith) c.args.from long
           (c.loop-at.invariant.before m b told at) (read.1 m b (ap (λ (s : FileState). s.kept) c.loop-at.invariant.state ∙ told) at);
     }
@@ -31,7 +31,7 @@ returns-in-Ok-Some-clause-first g c =
     let read = rw c.in-Ok-Some.field-0-is at c.in-Ok-Some.ensures.first in (
       read.0 ∙ c.loop-at.invariant.state,
       λ m b told at.
-          let len = length-strings b t (told_of (g.F.Files.state c.args.files.now).kept c.args.name.now m b c.requires.told told at) in
+          let len = length-strings b t (told_of (g.F.Files.state c.args.files.now).kept c.args.name.now m b c.requires.tables.told told at) in
           search-found (strings_of b t) c.args.text.now c.loop-at.at n (omega arith) c.args.from c.in-Ok-Some.place c.loop-at.invariant.low
           (c.loop-at.invariant.before m b told at) (read.1 m b (ap (λ (s : FileState). s.kept) c.loop-at.invariant.state ∙ told) at),
     )
@@ -40,7 +40,7 @@ pub returns-clause-first : goal.returns-clause-first
 returns-clause-first g c = (
   c.loop-at.invariant.state,
   λ m b told at.
-      let len = length-strings b c.args.t.now (told_of (g.F.Files.state c.args.files.now).kept c.args.name.now m b c.requires.told told at) in
+      let len = length-strings b c.args.t.now (told_of (g.F.Files.state c.args.files.now).kept c.args.name.now m b c.requires.tables.told told at) in
       let past = c.loop-at-test.false in
       search-none (strings_of b c.args.t.now) c.args.text.now c.args.from c.loop-at.at (omega arith) (c.loop-at.invariant.before m b told at),
 )

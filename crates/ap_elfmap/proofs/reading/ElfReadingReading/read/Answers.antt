@@ -1,24 +1,20 @@
-use Rattle.std.proofs.Common.{ℕ, List, length, ap, ◌∙◌, subst}
-use Rattle.ap_fields.specs.Readings.{bytes_in}
+use Rattle.std.proofs.Common.{◌≡◌, List, ℕ, subst, sym}
+use Rattle.ap_files.proofs.SliceLemmas.{slice_told}
 use Rattle.ap_elf.specs.Fields.{header_of, entries_of}
-use Rattle.ap_elf.specs.ElfReading.{elf_reading_by}
+use Rattle.ap_elf.specs.ElfReading.{elf_reading}
 use Rattle.ap_elf.specs.Machines.{number_of}
 use Rattle.ap_image.specs.Reading.{IsPlanOf}
-use Rattle.ap_elfmap.specs.ElfPlans.{elf_plan_by}
-use Rattle.ap_elfmap.proofs.Fronts.{over-own}
+use Rattle.ap_elfmap.specs.ElfPlans.{elf_plan}
+use Rattle.ap_elfmap.specs.Laws.{page-granule, cells-by}
 use Rattle.ap_elfmap.proofs.reading.ElfReadingReading.read.Goals as goal
 
-pub returns-in-Some-clause-plan : goal.returns-in-Some-clause-plan
-returns-in-Some-clause-plan c =
-    let first = c.in-Some.ensures.cases in
-    let file : List ℕ = c.args.file.now in
-    let r = c.args.self.now in
-    c.read_with.ensures.plan ∙ ap (λ (f : List ℕ). elf_plan_by (number_of r.machine) r.page (length file) (header_of f) (entries_of f)) (over-own file c.in-Some.header.now first.same first.enough)
+pub returns-clause-plan : goal.returns-clause-plan
+returns-clause-plan c = slice_told c.in-Ok.ensures.read.1
 
-pub returns-in-Some-clause-image : goal.returns-in-Some-clause-image
-returns-in-Some-clause-image c =
-    let first = c.in-Some.ensures.cases in
-    let file : List ℕ = c.args.file.now in
+pub returns-clause-image : goal.returns-clause-image
+returns-clause-image c =
     let r = c.args.self.now in
-    subst (λ (f : List ℕ). IsPlanOf c.read_with.result file (elf_reading_by (number_of r.machine) r.page (length file) (header_of f) (entries_of f) (bytes_in file)))
-    (over-own file c.in-Some.header.now first.same first.enough) c.read_with.ensures.image
+    let file : List ℕ = c.args.file.now in
+    let plan : c.in-Ok.plan ≡ elf_plan (number_of r.machine) r.page file = slice_told c.in-Ok.ensures.read.1 in
+    subst (λ p. IsPlanOf p file (elf_reading (number_of r.machine) r.page file)) (sym plan)
+    (cells-by (number_of r.machine) r.page (header_of file) (entries_of file) file (page-granule r.machine r.page c.requires))

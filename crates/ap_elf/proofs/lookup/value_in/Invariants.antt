@@ -1,0 +1,14 @@
+use Rattle.std.proofs.Common.{◌≡◌, ◌≤◌, ◌+◌, ◌*◌, ◌-◌}
+use Rattle.ap_files.specs.Files.{ForFile}
+use Rattle.ap_elf.specs.Symbols.{value_of, value_among, strings_of, symbols_from}
+use Rattle.ap_elf.proofs.lookup.value_in.Given as goal
+
+abbrev pub invariant-loop-done : goal.invariant-loop-done
+invariant-loop-done g l = record {
+  state : g.F.Files.state l.files ≡ g.F.Files.state l.fn.files;
+  below : l.done ≤ l.t.count;
+  left : ForFile (g.F.Files.state l.fn.files).kept l.name (λ b. value_of b l.t l.wanted ≡ value_among (strings_of b l.t) l.wanted (symbols_from b (l.t.at + 24 * l.done) (l.t.count - l.done)));
+}
+
+abbrev pub decreases-loop-done : goal.decreases-loop-done
+decreases-loop-done g l = l.t.count - l.done
