@@ -30,14 +30,16 @@ use Rattle.ap_layout.proofs.Rounded.{granule_of-is}
 use Rattle.ap_layout.proofs.NewAreas.{end-least}
 use Rattle.ap_layout.proofs.Fitting.{positions-fit, table-most}
 use Rattle.ap_script.specs.Tables.{embedded_bytes, table_text}
-use Rattle.ap_script.specs.Blocks.{block_of}
-use Rattle.ap_script.specs.Stands.{MachinesDiffer, HasTable, statement_place}
+use Rattle.ap_script.specs.Blocks.{block_of, body_of}
+use Rattle.ap_script.specs.Stands.{MachinesDiffer, HasTable, HasFreeDelimiter, statement_place}
 use Rattle.ap_script.specs.Claims.{block_claims}
 use Rattle.ap_script.proofs.Claimed.{block-claimed}
-use Rattle.ap_script.proofs.BlockParts.{length-block, block-magic, block-tables}
+use Rattle.ap_script.proofs.BlockParts.{length-body, length-block, block-magic, block-body, block-tables}
+use Rattle.ap_script.proofs.DelimiterWords.{free-delimiter}
+use Rattle.ap_script.proofs.TableZeros.{body-zeros}
 use Rattle.ap_script.proofs.Openings.{parts-holds}
 use Rattle.ap_script.proofs.StatementPlaces.{opens-only, parts-block}
-use Rattle.ap_script.proofs.TakenStatements.{count-places, taken-block, header_for-input, has-first, has-second}
+use Rattle.ap_script.proofs.TakenStatements.{count-places, places-order, taken-block, header_for-input, has-first, has-second}
 use Rattle.ap_link.specs.Same.{Same, nothing_else}
 use Rattle.ap_link.specs.LinkedIn.{HoldAll, IsLinkedIn}
 use Rattle.ap_link.specs.Linked.{input_text, input_end, tail_of, block_for, second_of, taken_second, linked_of}
@@ -238,6 +240,13 @@ carries options inputs l rest n table b areas meets differ fits has linked =
 
 -- ---- the whole
 
+-- no line of the body ends the here-document
+body-free : (options : Options) (inputs : List Taken) (l : Positions) → Fits options inputs l → HasFreeDelimiter (body_of options inputs l)
+body-free options inputs l fits =
+    let long = length-body options inputs l fits in
+    let end = fits.body in
+    free-delimiter (body_of options inputs l) (omega arith)
+
 claimed-file : (options : Options) (e : Taken) (a : List ℕ) (o : Option (Taken × List ℕ)) → AreLinkable e (bare-of o)
     → IsFile (positions_of options e (bare-of o)).total (block_claims options (inputs_of e (bare-of o)) (positions_of options e (bare-of o)) ++ tail_claims e a o) (file-of options e a o)
 claimed-file options e a o h =
@@ -259,6 +268,10 @@ file-linked options a None h =
     record {
       bytes = refl;
       size = file-length options e a None h;
+      body = block-body options (inputs_of e None) l (tail_of e a None);
+      zeros = body-zeros options (inputs_of e None) l meets fits;
+      delimiter = body-free options (inputs_of e None) l fits;
+      order = places-order options (inputs_of e None) l;
       only = λ k. opens-only options (inputs_of e None) l (tail_of e a None) k meets fits;
       count = count-places options (inputs_of e None) l differ fits;
       first = carries options (inputs_of e None) l (tail_of e a None) 1 (tables_start options (inputs_of e None)) a (input_areas e BLOCK) meets differ fits (has-first (tables_start options (inputs_of e None)) l.body_end e [] l.tables fits.tables) (first-linked options 1 a None h);
@@ -277,6 +290,10 @@ file-linked options a (Some b) h =
     record {
       bytes = refl;
       size = file-length options e a o h;
+      body = block-body options (inputs_of e (Some f)) l (tail_of e a o);
+      zeros = body-zeros options (inputs_of e (Some f)) l meets fits;
+      delimiter = body-free options (inputs_of e (Some f)) l fits;
+      order = places-order options (inputs_of e (Some f)) l;
       only = λ k. opens-only options (inputs_of e (Some f)) l (tail_of e a o) k meets fits;
       count = count-places options (inputs_of e (Some f)) l differ fits;
       first = carries options (inputs_of e (Some f)) l (tail_of e a o) 1 (tables_start options (inputs_of e (Some f))) a (input_areas e BLOCK) meets differ fits

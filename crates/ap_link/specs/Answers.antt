@@ -1,5 +1,5 @@
 -- What stands of a linked file, and what the linker answers.
-use Rattle.std.specs.Prelude.{◌≡◌, ◌↔◌, ℕ, ◌+◌, List, length, Contains, IfSome, Vec, Result, Ok, Err, Option, Some, None}
+use Rattle.std.specs.Prelude.{◌≡◌, ◌↔◌, ℕ, ◌+◌, ◌<◌, List, length, Contains, IfSome, Vec, Result, Ok, Err, Option, Some, None}
 use Rattle.std.specs.declared.alloc.Global.{Global}
 use Rattle.ap_fields.specs.Bytes.{Holds, over}
 use Rattle.ap_fields.specs.Readings.{bytes_in}
@@ -7,6 +7,7 @@ use Rattle.ap_claims.specs.Files.{IsFile, Agree}
 use Rattle.ap_elf.specs.Fields.{header_of, entries_of, loads_in}
 use Rattle.ap_elf.specs.ElfReading.{elf_reading}
 use Rattle.ap_check.specs.declared.options.Options.{Options}
+use Rattle.ap_elf.specs.declared.machine.Machine.TheVariants.{X64, A64}
 use Rattle.ap_elf.specs.Machines.{granule_of, number_of}
 use Rattle.ap_check.specs.Inputs.{Taken, input_of}
 use Rattle.ap_check.specs.Both.{first_fault_of_both}
@@ -16,7 +17,8 @@ use Rattle.ap_octal.specs.Statement.{statement_of}
 use Rattle.ap_loader.specs.ApeReading.{ape_reading}
 use Rattle.ap_layout.specs.Positions.{Positions, positions_of, inputs_of, tables_start, table_length}
 use Rattle.ap_script.specs.Tables.{embedded_bytes}
-use Rattle.ap_script.specs.Stands.{statement_place, statement_places}
+use Rattle.ap_script.specs.Blocks.{body_of}
+use Rattle.ap_script.specs.Stands.{HasFreeDelimiter, HasZeros, statement_place, statement_places}
 use Rattle.ap_link.specs.declared.fault.LinkFault.{LinkFault}
 use Rattle.ap_link.specs.declared.fault.LinkFault.TheVariants as fault
 use Rattle.ap_link.specs.Same.{Same, nothing_else}
@@ -29,6 +31,10 @@ inputs_in a b = inputs_of (input_of 1 a) (taken_second b)
 
 abbrev pub positions_in : Options → List ℕ → Option (List ℕ) → Positions
 positions_in options a b = positions_of options (input_of 1 a) (taken_second b)
+
+-- the here-document's body
+abbrev pub body_in : Options → List ℕ → Option (List ℕ) → List ℕ
+body_in options a b = body_of options (inputs_in a b) (positions_in options a b)
 
 -- what stands of an input of these bytes, taken as e, in a file where its program header table has a place: the statement of
 -- its embedded header stands at its place, and what the readings find at each page size, in the file with that header over
@@ -50,14 +56,19 @@ CarriesSecond options a b file =
     let e = input_of 2 b in
     Carries b e (tables_start options (inputs_in a (Some b)) + table_length (input_of 1 a)) (statement_place options (inputs_in a (Some b)) (positions_in options a (Some b)) e.machine) file
 
--- What a linked file of one or two inputs is, and what stands of it: its bytes and its size; that `printf '` stands in its
--- window where the script has statements and nowhere else, which are one for each input, that for x86-64 first; what it carries
--- of each input; and that it is the file of its claims, which agree where they meet.
+-- What a linked file of one or two inputs is, and what stands of it: its bytes and its size; the here-document's body, which holds
+-- a zero in each eight bytes and has no line that ends it; that `printf '` stands in its window where the script has statements
+-- and nowhere else, which are one for each input, that for x86-64 first; what it carries of each input; and that it is the file of
+-- its claims, which agree where they meet.
 pub record IsLinked (options : Options) (a : List ℕ) (b : Option (List ℕ)) (file : List ℕ) : Type 0 where
   pub bytes : file ≡ linked_of options a b
   pub size : length file ≡ (positions_in options a b).total
+  pub body : Holds file 86 (body_in options a b)
+  pub zeros : HasZeros (body_in options a b)
+  pub delimiter : HasFreeDelimiter (body_in options a b)
   pub only : (k : ℕ) → Opens file k ↔ Contains (statement_places options (inputs_in a b) (positions_in options a b)) k
   pub count : length (statement_places options (inputs_in a b) (positions_in options a b)) ≡ length (inputs_in a b)
+  pub order : statement_place options (inputs_in a b) (positions_in options a b) X64 < statement_place options (inputs_in a b) (positions_in options a b) A64
   pub first : CarriesFirst options a b file
   pub second : IfSome b (λ c. CarriesSecond options a c file)
   pub claims : IsFile (positions_in options a b).total (linked_claims options a b) file

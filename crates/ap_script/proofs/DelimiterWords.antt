@@ -7,7 +7,7 @@ use Rattle.std.proofs.lemmas.Bool.{cases_Bool}
 use Rattle.std.proofs.lemmas.Bool.Decides.{nat_tests}
 use Rattle.ap_fields.specs.declared.sizes.TheConstants.{WINDOW}
 use Rattle.ap_script.specs.Delimiter.{digits_of, delimiter, begins_with, stands_in, without_nul, least_from, delimiter_number}
-use Rattle.ap_script.specs.Stands.{HasPart}
+use Rattle.ap_script.specs.Stands.{HasPart, HasFreeDelimiter}
 use Rattle.ap_script.proofs.Quotes.{both, not_true}
 
 -- ---- how many numbers below n pass a test
@@ -181,7 +181,7 @@ stands_in-part word [] behind = stands_in-first word (word ++ behind) (begins_wi
 stands_in-part word (c ∷ front) behind =
     or_right (begins_with word (c ∷ (front ++ (word ++ behind)))) (stands_in word (front ++ (word ++ behind))) (stands_in-part word front behind)
 
-pub not-part : (word text : List ℕ) → stands_in word text ≡ false → ¬ HasPart text word
+not-part : (word text : List ℕ) → stands_in word text ≡ false → ¬ HasPart text word
 not-part word text none part =
     let there : stands_in word text ≡ true = ap (stands_in word) part.2 ∙ stands_in-part word part.0 part.1 in
     let f : false ≡ true = sym none ∙ there in
@@ -208,7 +208,7 @@ without_nul-delimiter : (number : ℕ) → without_nul (delimiter number) ≡ de
 without_nul-delimiter number = ap (λ r. codes "apelink" ++ r) (without_nul-digits 8 number)
 
 -- what stands in a text also stands in it without NUL
-pub part-without_nul : (text : List ℕ) (number : ℕ) → HasPart text (delimiter number) → HasPart (without_nul text) (delimiter number)
+part-without_nul : (text : List ℕ) (number : ℕ) → HasPart text (delimiter number) → HasPart (without_nul text) (delimiter number)
 part-without_nul text number part = (
   without_nul part.0,
   without_nul part.1,
@@ -217,3 +217,8 @@ part-without_nul text number part = (
       ∙ ap (λ r. without_nul part.0 ++ r)
       (without_nul-append (delimiter number) part.1 ∙ ap (λ r. r ++ without_nul part.1) (without_nul-delimiter number)),
 )
+
+pub free-delimiter : (body : List ℕ) → length body < WINDOW → HasFreeDelimiter body
+free-delimiter body short =
+    let none = not-part (delimiter (delimiter_number body)) (without_nul body) (number-free body short).1 in
+    record { kept = λ part. none (part-without_nul body (delimiter_number body) part); dropped = none }

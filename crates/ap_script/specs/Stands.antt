@@ -8,6 +8,7 @@ use Rattle.ap_check.specs.Inputs.{Taken}
 use Rattle.ap_layout.specs.declared.layout.Area.{Area}
 use Rattle.ap_layout.specs.Positions.{Positions}
 use Rattle.ap_script.specs.Tables.{table_text}
+use Rattle.ap_script.specs.Delimiter.{delimiter, delimiter_number, without_nul}
 use Rattle.ap_script.specs.Script.{script_start, system_lines, machine_start, machine_lines, header_for}
 
 -- no two inputs are for the same machine
@@ -35,6 +36,12 @@ HasZeros text = (k : ℕ) → k + 8 ≤ length text → (i : ℕ) × (i < 8) × 
 -- a text has another as a part, as each of its lines is one
 abbrev pub HasPart : List ℕ → List ℕ → Type 0
 HasPart text part = (front : List ℕ) × (behind : List ℕ) × (text ≡ front ++ (part ++ behind))
+
+-- the here-document's delimiter stands nowhere in its body, whether a shell keeps the body's NUL bytes or drops them; so no line
+-- of the body ends the here-document (POSIX.1 Shell Command Language, "Here-Document")
+pub record HasFreeDelimiter (body : List ℕ) : Type 0 where
+  pub kept : ¬ HasPart body (delimiter (delimiter_number body))
+  pub dropped : ¬ HasPart (without_nul body) (delimiter (delimiter_number body))
 
 -- where the lines for machines begin: behind the body, the delimiter's line of 17 bytes and the script's first lines
 abbrev pub machines_start : Options → List Taken → Positions → ℕ

@@ -13,10 +13,10 @@ ghost use Rattle.ap_layout.specs.declared.layout.Area.{Area};
 ghost use Rattle.ap_layout.specs.Areas.{ServeAll};
 ghost use Rattle.ap_layout.specs.Positions.{Positions, Fits, table_length};
 ghost use Rattle.ap_script.specs.Tables.{embedded_bytes, table_text};
-ghost use Rattle.ap_script.specs.Delimiter.{delimiter, delimiter_number, without_nul};
+ghost use Rattle.ap_script.specs.Delimiter.{delimiter_number};
 ghost use Rattle.ap_script.specs.Blocks.{body_of, shell_text, block_of};
 ghost use Rattle.ap_script.specs.Claims.{BlockIsClaimed};
-ghost use Rattle.ap_script.specs.Stands.{MachinesDiffer, HasTable, HoldsTables, HasZeros, HasPart, statement_place, statement_places};
+ghost use Rattle.ap_script.specs.Stands.{MachinesDiffer, HasTable, HoldsTables, HasZeros, HasFreeDelimiter, statement_place, statement_places};
 
 /// An embedded header has 64 bytes, and a program header table 56 for each of its entries.
 pub fn headers_have_lengths()
@@ -83,6 +83,5 @@ pub fn statements_are_taken()
 /// Language, "Here-Document").
 pub fn delimiters_are_free()
     ensures number { (body : List ℕ) → length body < WINDOW → delimiter_number body < WINDOW }
-    ensures kept { (body : List ℕ) → length body < WINDOW → ¬ HasPart body (delimiter (delimiter_number body)) }
-    ensures dropped { (body : List ℕ) → length body < WINDOW → ¬ HasPart (without_nul body) (delimiter (delimiter_number body)) }
+    ensures free { (body : List ℕ) → length body < WINDOW → HasFreeDelimiter body }
 {}
