@@ -11,8 +11,8 @@ use Rattle.ap_check.specs.declared.options.Options.{Options}
 use Rattle.ap_check.specs.Inputs.{Taken, Meets}
 use Rattle.ap_layout.specs.declared.layout.Area.{Area}
 use Rattle.ap_layout.specs.Areas.{area_of, after, areas_of, end_from, new_areas, Among, Serves, ServeAll}
-use Rattle.ap_layout.specs.Positions.{Fits, FitAll, positions_of, inputs_of, input_areas, no_sharing, joined, one_if, table_length}
-use Rattle.ap_layout.specs.Apart.{Ascend, FittingIsApart, first_areas}
+use Rattle.ap_layout.specs.Positions.{Positions, Fits, PlacedInput, AreServed, placed_inputs, all_areas, positions_of, inputs_of, input_areas, no_sharing, joined, one_if, table_length}
+use Rattle.ap_layout.specs.Apart.{AllApart, Ascend, FittingIsApart, first_areas}
 use Rattle.ap_layout.proofs.Rounded.{granule_of-is, ceil-least}
 use Rattle.ap_layout.proofs.NewAreas.{Within, new-apart, end-append, end-least}
 use Rattle.ap_layout.proofs.Serving.{AllMayServe, areas-serve, nothing-shared, served-end}
@@ -71,7 +71,8 @@ fits-one options e m =
     let most = input-end e BLOCK m in
     let table = table-most e m in
     record {
-      areas = (serve.0, (refl, tt));
+      all = refl;
+      areas = (serve.0, tt);
       total = ap (end_from BLOCK) (sym (append-nil (input_areas e BLOCK)));
       small = omega arith;
       tables = (refl, refl);
@@ -94,6 +95,7 @@ fits-two options e f m n =
     let table = table-most e m in
     let other = table-most f n in
     record {
+      all = refl;
       areas = (one.0, (serve-more (granule_of f.machine) (new_areas mid tail) (new_areas BLOCK (first ++ tail)) f.loads second one.1 two.0, tt));
       total = ap (end_from mid) (sym (append-nil second)) ∙ sym (end-append BLOCK first tail);
       small = omega arith;
@@ -125,26 +127,32 @@ among-append a [] ys h = inr h
 among-append a (x ∷ xs) ys (inl is) = inl (inl is)
 among-append a (x ∷ xs) ys (inr more) = elim (among-append a xs ys more) [ inl l ↦ inl (inr l) | inr r ↦ inr r ]
 
-fitted-new : (news : List Area) (inputs : List Taken) (lists : List (List Area)) (a : Area) → FitAll news inputs lists → Among a (joined lists) → 0 < a.len → Among a news
-fitted-new news [] [] a h at some = absurd at
-fitted-new news [] (areas ∷ lists) a h at some =
-    elim (among-append a areas (joined lists) at) [
-      | inl l ↦ absurd (subst (Among a) h.0 l)
-      | inr r ↦ fitted-new news [] lists a h.1 r some
-    ]
-fitted-new news (e ∷ inputs) [] a h at some = absurd h
-fitted-new news (e ∷ inputs) (areas ∷ lists) a h at some =
-    elim (among-append a areas (joined lists) at) [
-      | inl l ↦ served-new (granule_of e.machine) news e.loads areas a h.0 l some
-      | inr r ↦ fitted-new news inputs lists a h.1 r some
+fitted-new : (news : List Area) (ps : List PlacedInput) (a : Area) → AreServed news ps → Among a (all_areas ps) → 0 < a.len → Among a news
+fitted-new news [] a h at some = absurd at
+fitted-new news (p ∷ ps) a h at some =
+    elim (among-append a p.areas (all_areas ps) at) [
+      | inl l ↦ served-new (granule_of p.input.machine) news p.input.loads p.areas a h.0 l some
+      | inr r ↦ fitted-new news ps a h.1 r some
     ]
 
 -- areas of positions that fit don't overlap
 pub fitting-apart : FittingIsApart
 fitting-apart options inputs l fits a b at bt some more =
-    new-apart BLOCK (joined l.areas) a b
-    (fitted-new (new_areas BLOCK (joined l.areas)) inputs l.areas a fits.areas at some)
-    (fitted-new (new_areas BLOCK (joined l.areas)) inputs l.areas b fits.areas bt more)
+    let ps = placed_inputs inputs l in
+    let news = new_areas BLOCK (all_areas ps) in
+    new-apart BLOCK (all_areas ps) a b (fitted-new news ps a fits.areas at some) (fitted-new news ps b fits.areas bt more)
+
+-- the areas of all inputs are those of the positions
+all-joined : (options : Options) (e : Taken) (o : Option Taken) → all_areas (placed_inputs (inputs_of e o) (positions_of options e o)) ≡ joined (positions_of options e o).areas
+unfolding positions_of
+all-joined options e None = refl
+all-joined options e (Some f) = refl
+
+pub places-apart : (options : Options) (e : Taken) (o : Option Taken) (l : Positions) → l ≡ positions_of options e o → Fits options (inputs_of e o) l → AllApart (joined l.areas)
+places-apart options e o l is fits =
+    let P : Positions → Type 0 = λ x. AllApart (joined x.areas) in
+    let apart = fitting-apart options (inputs_of e o) (positions_of options e o) (subst (Fits options (inputs_of e o)) is fits) in
+    subst P (sym is) (subst AllApart (all-joined options e o) apart)
 
 area-past : (g : ℕ) (p : Load) (c : ℕ) → IsGranule g → 0 < (area_of None g p c).len → c ≤ (area_of None g p c).file
 area-past g p c is some =

@@ -4,7 +4,7 @@ use Rattle.ap_check.specs.declared.options.Options.{Options}
 use Rattle.ap_check.specs.Inputs.{Taken}
 use Rattle.ap_layout.specs.declared.layout.Area.{Area}
 use Rattle.ap_layout.specs.Areas.{after, Among, AreApart}
-use Rattle.ap_layout.specs.Positions.{Positions, Fits, joined}
+use Rattle.ap_layout.specs.Positions.{Positions, Fits, placed_inputs, all_areas}
 
 -- any two of some areas that aren't empty are the same or don't overlap
 abbrev pub AllApart : List Area → Type 0
@@ -22,4 +22,4 @@ first_areas (areas ∷ more) = areas
 
 -- positions that fit have no areas that overlap
 abbrev pub FittingIsApart : Type 0
-FittingIsApart = (options : Options) (inputs : List Taken) (l : Positions) → Fits options inputs l → AllApart (joined l.areas)
+FittingIsApart = (options : Options) (inputs : List Taken) (l : Positions) → Fits options inputs l → AllApart (all_areas (placed_inputs inputs l))

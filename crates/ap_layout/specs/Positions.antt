@@ -1,5 +1,6 @@
 -- The positions of a linked file's parts, by its inputs, and what stands of them.
-use Rattle.std.specs.Prelude.{◌≡◌, ℕ, ◌+◌, ◌*◌, ◌^◌, ◌<◌, ◌≤◌, List, [], ◌∷◌, ◌++◌, length, Option, Some, None}
+use Rattle.std.specs.Prelude.{◌≡◌, ℕ, ◌+◌, ◌*◌, ◌^◌, ◌<◌, ◌≤◌, List, [], ◌∷◌, ◌++◌, length, map, Option, Some, None}
+use Rattle.std.specs.List.{flat_map}
 use Rattle.ap_fields.specs.declared.sizes.TheConstants.{BLOCK}
 use Rattle.ap_elf.specs.declared.types.Entry.{Entry}
 use Rattle.ap_elf.specs.Machines.{granule_of}
@@ -76,27 +77,45 @@ abbrev pub joined : List (List Area) → List Area
 joined [] = []
 joined (areas ∷ more) = areas ++ joined more
 
--- each input's areas serve its loads; there are no areas without an input
-abbrev pub FitAll : List Area → List Taken → List (List Area) → Type 0
-FitAll news [] [] = Unit {0}
-FitAll news [] (areas ∷ more) = (areas ≡ []) × FitAll news [] more
-FitAll news (e ∷ inputs) [] = ⊥
-FitAll news (e ∷ inputs) (areas ∷ more) = ServeAll (granule_of e.machine) news e.loads areas × FitAll news inputs more
+-- an input with the places of its parts: the areas of its loads, in their order, and its program header table
+pub record PlacedInput : Type 0 where
+  pub input : Taken
+  pub areas : List Area
+  pub table : ℕ
 
--- so many tables one behind the other, from a place on, each of them as long as its input's
-abbrev pub AreTables : ℕ → List Taken → List ℕ → ℕ → Type 0
-AreTables at [] [] end = end ≡ at
-AreTables at [] (t ∷ tables) end = ⊥
-AreTables at (e ∷ inputs) [] end = ⊥
-AreTables at (e ∷ inputs) (t ∷ tables) end = (t ≡ at) × AreTables (at + table_length e) inputs tables end
+-- inputs with the places of their parts, as far as each has them
+abbrev pub placed : List Taken → List (List Area) → List ℕ → List PlacedInput
+placed (e ∷ inputs) (areas ∷ more) (t ∷ tables) = record { input = e; areas = areas; table = t } ∷ placed inputs more tables
+placed inputs more tables = []
 
--- What writers and readings may suppose of positions: every load is served by an area that is empty or one of the new ones,
--- of which no two overlap; the tables follow each other, and end below the window.
+abbrev pub placed_inputs : List Taken → Positions → List PlacedInput
+placed_inputs inputs l = placed inputs l.areas l.tables
+
+-- the inputs alone, and the areas of all of them
+abbrev pub only_inputs : List PlacedInput → List Taken
+only_inputs ps = map (λ p. p.input) ps
+
+abbrev pub all_areas : List PlacedInput → List Area
+all_areas ps = flat_map (λ p. p.areas) ps
+
+-- each input's areas serve its loads
+abbrev pub AreServed : List Area → List PlacedInput → Type 0
+AreServed news [] = Unit {0}
+AreServed news (p ∷ ps) = ServeAll (granule_of p.input.machine) news p.input.loads p.areas × AreServed news ps
+
+-- the tables stand one behind the other, from a place on, each of them as long as its input's
+abbrev pub AreTables : ℕ → List PlacedInput → ℕ → Type 0
+AreTables at [] end = end ≡ at
+AreTables at (p ∷ ps) end = (p.table ≡ at) × AreTables (at + table_length p.input) ps end
+
+-- What writers and readings may suppose of positions: each input has its places; every load is served by an area that is empty
+-- or one of the new ones, of which no two overlap; the tables follow each other, and end below the window.
 pub record Fits (options : Options) (inputs : List Taken) (l : Positions) : Type 0 where
-  pub areas : FitAll (new_areas BLOCK (joined l.areas)) inputs l.areas
-  pub total : l.total ≡ end_from BLOCK (joined l.areas)
+  pub all : only_inputs (placed_inputs inputs l) ≡ inputs
+  pub areas : AreServed (new_areas BLOCK (all_areas (placed_inputs inputs l))) (placed_inputs inputs l)
+  pub total : l.total ≡ end_from BLOCK (all_areas (placed_inputs inputs l))
   pub small : l.total < 2 ^ 31
-  pub tables : AreTables (tables_start options inputs) inputs l.tables l.body_end
+  pub tables : AreTables (tables_start options inputs) (placed_inputs inputs l) l.body_end
   pub body : l.body_end ≤ 3568
   pub mach : l.mach_at + l.mach_len ≤ BLOCK
 

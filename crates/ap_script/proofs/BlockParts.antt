@@ -10,7 +10,7 @@ use Rattle.ap_check.specs.declared.options.Options.{Options}
 use Rattle.ap_elf.specs.declared.machine.Machine.TheVariants.{X64, A64}
 use Rattle.ap_check.specs.Inputs.{Taken}
 use Rattle.ap_layout.specs.Areas.{new_areas}
-use Rattle.ap_layout.specs.Positions.{Positions, Fits, joined, tables_start}
+use Rattle.ap_layout.specs.Positions.{Positions, Fits, tables_start, placed_inputs, all_areas}
 use Rattle.ap_script.specs.Script.{header_for}
 use Rattle.ap_script.specs.Delimiter.{digits_of, delimiter, delimiter_number}
 use Rattle.ap_script.specs.Blocks.{opening, tables_text, body_of, closing, script_for, shell_text, spaces, block_of}
@@ -36,9 +36,9 @@ length-opening number =
 pub length-body : (options : Options) (inputs : List Taken) (l : Positions) → Fits options inputs l → 86 + length (body_of options inputs l) ≡ l.body_end
 unfolding body_of
 length-body options inputs l fits =
-    let a = length-append (zeros 10) (tables_text inputs l.areas) in
+    let a = length-append (zeros 10) (tables_text (placed_inputs inputs l)) in
     let z = length-zeros 10 in
-    let t = length-tables (new_areas BLOCK (joined l.areas)) (tables_start options inputs) l.body_end inputs l.areas l.tables fits.areas fits.tables in
+    let t = length-tables (new_areas BLOCK (all_areas (placed_inputs inputs l))) (tables_start options inputs) l.body_end (placed_inputs inputs l) fits.areas fits.tables in
     omega arith
 
 pub length-closing : (number : ℕ) → length (closing number) ≡ 17
@@ -55,7 +55,7 @@ small-units options inputs l fits = let mach = fits.mach in omega arith
 
 pub length-script_for : (options : Options) (inputs : List Taken) (l : Positions) → Fits options inputs l → length (script_for options inputs l) ≤ 1224
 length-script_for options inputs l fits =
-    length-script options.systems (header_for X64 inputs l.tables) (header_for A64 inputs l.tables) (l.mach_at / 8) (l.mach_len / 8) (header-is X64 inputs l.tables) (header-is A64 inputs l.tables)
+    length-script options.systems (header_for X64 (placed_inputs inputs l)) (header_for A64 (placed_inputs inputs l)) (l.mach_at / 8) (l.mach_len / 8) (header-is X64 (placed_inputs inputs l)) (header-is A64 (placed_inputs inputs l))
     (small-units options inputs l fits)
 
 pub length-text : (options : Options) (inputs : List Taken) (l : Positions) → Fits options inputs l → length (shell_text options inputs l) ≤ 4809
@@ -190,21 +190,21 @@ block-body options inputs l rest =
     subst (λ w. Holds w 86 (body_of options inputs l)) (sym parts) (holds-part (opening k) (body_of options inputs l) (behind ++ end) 86 (sym (length-opening k)))
 
 -- the tables
-tables-in : (options : Options) (inputs : List Taken) (l : Positions) (number : ℕ) (behind : List ℕ) → opening number ++ (body_of options inputs l ++ behind) ≡ (opening number ++ zeros 10) ++ (tables_text inputs l.areas ++ behind)
+tables-in : (options : Options) (inputs : List Taken) (l : Positions) (number : ℕ) (behind : List ℕ) → opening number ++ (body_of options inputs l ++ behind) ≡ (opening number ++ zeros 10) ++ (tables_text (placed_inputs inputs l) ++ behind)
 unfolding body_of
 tables-in options inputs l number behind =
-    ap (λ r. opening number ++ r) (append_assoc (zeros 10) (tables_text inputs l.areas) behind)
-    ∙ sym (append_assoc (opening number) (zeros 10) (tables_text inputs l.areas ++ behind))
+    ap (λ r. opening number ++ r) (append_assoc (zeros 10) (tables_text (placed_inputs inputs l)) behind)
+    ∙ sym (append_assoc (opening number) (zeros 10) (tables_text (placed_inputs inputs l) ++ behind))
 
-pub block-tables : (options : Options) (inputs : List Taken) (l : Positions) (rest : List ℕ) → Fits options inputs l → HoldsTables (block_of options inputs l ++ rest) inputs l.areas l.tables
+pub block-tables : (options : Options) (inputs : List Taken) (l : Positions) (rest : List ℕ) → Fits options inputs l → HoldsTables (block_of options inputs l ++ rest) (placed_inputs inputs l)
 block-tables options inputs l rest fits =
     let k = delimiter_number (body_of options inputs l) in
     let behind = behind_body options inputs l in
     let end = zeros (BLOCK - WINDOW) ++ rest in
-    let parts : block_of options inputs l ++ rest ≡ (opening k ++ zeros 10) ++ (tables_text inputs l.areas ++ (behind ++ end)) =
+    let parts : block_of options inputs l ++ rest ≡ (opening k ++ zeros 10) ++ (tables_text (placed_inputs inputs l) ++ (behind ++ end)) =
     front-parts options inputs l rest ∙ ap (λ r. opening k ++ r) (append_assoc (body_of options inputs l) behind end) ∙ tables-in options inputs l k (behind ++ end) in
     let a = length-append (opening k) (zeros 10) in
     let o = length-opening k in
     let z = length-zeros 10 in
-    subst (λ w. HoldsTables w inputs l.areas l.tables) (sym parts)
-    (holds-tables (new_areas BLOCK (joined l.areas)) (tables_start options inputs) l.body_end inputs l.areas l.tables (opening k ++ zeros 10) (behind ++ end) fits.areas fits.tables (omega arith))
+    subst (λ w. HoldsTables w (placed_inputs inputs l)) (sym parts)
+    (holds-tables (new_areas BLOCK (all_areas (placed_inputs inputs l))) (tables_start options inputs) l.body_end (placed_inputs inputs l) (opening k ++ zeros 10) (behind ++ end) fits.areas fits.tables (omega arith))

@@ -12,7 +12,7 @@ use Rattle.ap_check.specs.declared.options.Options.{Options}
 use Rattle.ap_check.specs.Inputs.{Taken}
 use Rattle.ap_layout.specs.declared.layout.Area.{Area}
 use Rattle.ap_layout.specs.Areas.{new_areas}
-use Rattle.ap_layout.specs.Positions.{Positions, Fits, FitAll, AreTables, joined, tables_start, table_length}
+use Rattle.ap_layout.specs.Positions.{Positions, PlacedInput, Fits, AreServed, AreTables, all_areas, placed_inputs, tables_start, table_length}
 use Rattle.ap_script.specs.Tables.{table_text}
 use Rattle.ap_script.specs.Script.{header_for}
 use Rattle.ap_script.specs.Delimiter.{delimiter_number}
@@ -26,39 +26,38 @@ use Rattle.ap_script.proofs.StatementPlaces.{parts-block}
 use Rattle.ap_script.proofs.Endings.{ending-long}
 
 -- the tables, in front of a text
-from-tables : (news : List Area) (at end : ℕ) (inputs : List Taken) (more : List (List Area)) (tables : List ℕ) (claims : List Claim) (text : List ℕ)
-    → FitAll news inputs more → AreTables at inputs tables end → IsFrom end claims text → IsFrom at (table_claims inputs more tables ++ claims) (tables_text inputs more ++ text)
-from-tables news at end [] more [] claims text fits are h = subst (λ n. IsFrom n claims text) are h
-from-tables news at end [] more (t ∷ tables) claims text fits are h = absurd are
-from-tables news at end (e ∷ inputs) [] tables claims text fits are h = absurd fits
-from-tables news at end (e ∷ inputs) (areas ∷ more) [] claims text fits are h = absurd are
-from-tables news at end (e ∷ inputs) (areas ∷ more) (t ∷ tables) claims text fits are h =
-    let long = length-table_text news e areas fits.0 in
+from-tables : (news : List Area) (at end : ℕ) (ps : List PlacedInput) (claims : List Claim) (text : List ℕ)
+    → AreServed news ps → AreTables at ps end → IsFrom end claims text → IsFrom at (table_claims ps ++ claims) (tables_text ps ++ text)
+from-tables news at end [] claims text served are h = subst (λ n. IsFrom n claims text) are h
+from-tables news at end (p ∷ ps) claims text served are h =
+    let t : ℕ = p.table in
+    let here = table_text p.input p.areas in
+    let long = length-table_text news p.input p.areas served.0 in
     let place = are.0 in
-    let next : at + table_length e ≡ t + length (table_text e areas) = omega arith in
-    let later = from-tables news (at + table_length e) end inputs more tables claims text fits.1 are.1 h in
-    subst (λ n. IsFrom n (claim Elf t (table_text e areas) ∷ (table_claims inputs more tables ++ claims)) ((table_text e areas ++ tables_text inputs more) ++ text)) place
-    (subst (IsFrom t (claim Elf t (table_text e areas) ∷ (table_claims inputs more tables ++ claims))) (sym (append_assoc (table_text e areas) (tables_text inputs more) text))
-    (front-claim (claim Elf t (table_text e areas)) (table_claims inputs more tables ++ claims) (tables_text inputs more ++ text)
-    (subst (λ n. IsFrom n (table_claims inputs more tables ++ claims) (tables_text inputs more ++ text)) next later)))
+    let next : at + table_length p.input ≡ t + length here = omega arith in
+    let later = from-tables news (at + table_length p.input) end ps claims text served.1 are.1 h in
+    subst (λ n. IsFrom n (claim Elf t here ∷ (table_claims ps ++ claims)) ((here ++ tables_text ps) ++ text)) place
+    (subst (IsFrom t (claim Elf t here ∷ (table_claims ps ++ claims))) (sym (append_assoc here (tables_text ps) text))
+    (front-claim (claim Elf t here) (table_claims ps ++ claims) (tables_text ps ++ text)
+    (subst (λ n. IsFrom n (table_claims ps ++ claims) (tables_text ps ++ text)) next later)))
 
 -- the claims of the shell and of the tables, in the order of their places
 abbrev placed_claims : Options → List Taken → Positions → List Claim
 placed_claims options inputs l =
     claim Shell 0 magic_line
     ∷ claim Shell 64 (opening_line (delimiter_number (body_of options inputs l)))
-    ∷ (table_claims inputs l.areas l.tables ++ (claim Shell l.body_end (ending_of options inputs l) ∷ []))
+    ∷ (table_claims (placed_inputs inputs l) ++ (claim Shell l.body_end (ending_of options inputs l) ∷ []))
 
 -- the second half
 no-claims : IsFrom WINDOW [] (zeros (BLOCK - WINDOW) ++ [])
 no-claims = front-zeros WINDOW (BLOCK - WINDOW) BLOCK [] [] refl (no-text BLOCK)
 
 block-texts : (options : Options) (inputs : List Taken) (l : Positions)
-    → block_of options inputs l ++ [] ≡ magic_line ++ (zeros 55 ++ (opening_line (delimiter_number (body_of options inputs l)) ++ (zeros 10 ++ (tables_text inputs l.areas ++ (ending_of options inputs l ++ (zeros (BLOCK - WINDOW) ++ []))))))
+    → block_of options inputs l ++ [] ≡ magic_line ++ (zeros 55 ++ (opening_line (delimiter_number (body_of options inputs l)) ++ (zeros 10 ++ (tables_text (placed_inputs inputs l) ++ (ending_of options inputs l ++ (zeros (BLOCK - WINDOW) ++ []))))))
 unfolding opening body_of
 block-texts options inputs l =
     let line = opening_line (delimiter_number (body_of options inputs l)) in
-    let tables = tables_text inputs l.areas in
+    let tables = tables_text (placed_inputs inputs l) in
     let ending = ending_of options inputs l in
     let rest = zeros (BLOCK - WINDOW) ++ [] in
     front-parts options inputs l []
@@ -73,9 +72,9 @@ from-block options inputs l fits =
     let long = ending-long options inputs l fits in
     let ending : IsFrom l.body_end (last ∷ []) (ending_of options inputs l ++ (zeros (BLOCK - WINDOW) ++ [])) =
     front-claim last [] (zeros (BLOCK - WINDOW) ++ []) (subst (λ n. IsFrom n [] (zeros (BLOCK - WINDOW) ++ [])) (sym long) no-claims) in
-    let tables = from-tables (new_areas BLOCK (joined l.areas)) (tables_start options inputs) l.body_end inputs l.areas l.tables (last ∷ []) (ending_of options inputs l ++ (zeros (BLOCK - WINDOW) ++ [])) fits.areas fits.tables ending in
-    let later = table_claims inputs l.areas l.tables ++ (last ∷ []) in
-    let texts = tables_text inputs l.areas ++ (ending_of options inputs l ++ (zeros (BLOCK - WINDOW) ++ [])) in
+    let tables = from-tables (new_areas BLOCK (all_areas (placed_inputs inputs l))) (tables_start options inputs) l.body_end (placed_inputs inputs l) (last ∷ []) (ending_of options inputs l ++ (zeros (BLOCK - WINDOW) ++ [])) fits.areas fits.tables ending in
+    let later = table_claims (placed_inputs inputs l) ++ (last ∷ []) in
+    let texts = tables_text (placed_inputs inputs l) ++ (ending_of options inputs l ++ (zeros (BLOCK - WINDOW) ++ [])) in
     subst (IsFrom 0 (placed_claims options inputs l)) (sym (block-texts options inputs l))
     (front-claim (claim Shell 0 magic_line) (claim Shell 64 line ∷ later) (zeros 55 ++ (line ++ (zeros 10 ++ texts)))
     (front-zeros 9 55 64 (claim Shell 64 line ∷ later) (line ++ (zeros 10 ++ texts)) refl
@@ -83,7 +82,7 @@ from-block options inputs l fits =
     (front-zeros 86 10 (tables_start options inputs) later texts refl tables))))
 
 -- what an APE loader looks for stands in it too
-held-statement : (options : Options) (inputs : List Taken) (l : Positions) (m : Machine) (header : Option (List ℕ)) (claims : List Claim) → Fits options inputs l → header_for m inputs l.tables ≡ header
+held-statement : (options : Options) (inputs : List Taken) (l : Positions) (m : Machine) (header : Option (List ℕ)) (claims : List Claim) → Fits options inputs l → header_for m (placed_inputs inputs l) ≡ header
     → IsFile BLOCK claims (block_of options inputs l ++ []) → IsFile BLOCK (statement_claims header (statement_place options inputs l m) ++ claims) (block_of options inputs l ++ [])
 held-statement options inputs l m None claims fits is h = h
 held-statement options inputs l m (Some header) claims fits is h =
@@ -136,11 +135,11 @@ back c x y tables a b d e among = elim (among-either c tables _ among) [
 pub block-claimed : BlockIsClaimed
 block-claimed options inputs l fits =
     let block = block_of options inputs l ++ [] in
-    let x64 = header_for X64 inputs l.tables in
-    let a64 = header_for A64 inputs l.tables in
+    let x64 = header_for X64 (placed_inputs inputs l) in
+    let a64 = header_for A64 (placed_inputs inputs l) in
     let x = statement_claims x64 (statement_place options inputs l X64) in
     let y = statement_claims a64 (statement_place options inputs l A64) in
-    let tables = table_claims inputs l.areas l.tables in
+    let tables = table_claims (placed_inputs inputs l) in
     let number = delimiter_number (body_of options inputs l) in
     let a = claim Ape 0 magic in
     let b = claim Shell 0 magic_line in

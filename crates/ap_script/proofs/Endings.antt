@@ -8,7 +8,7 @@ use Rattle.ap_elf.specs.declared.machine.Machine.TheVariants.{X64, A64}
 use Rattle.ap_check.specs.declared.options.Systems.{Systems}
 use Rattle.ap_check.specs.declared.options.Options.{Options}
 use Rattle.ap_check.specs.Inputs.{Taken}
-use Rattle.ap_layout.specs.Positions.{Positions, Fits}
+use Rattle.ap_layout.specs.Positions.{Positions, Fits, placed_inputs}
 use Rattle.ap_script.specs.Delimiter.{delimiter, delimiter_number}
 use Rattle.ap_script.specs.Script.{system_lines, script_of, header_for}
 use Rattle.ap_script.specs.Blocks.{closing, spaces, body_of, script_for, shell_text, ending_of}
@@ -30,14 +30,14 @@ pub place-room : (options : Options) (inputs : List Taken) (l : Positions) (m : 
 place-room options inputs l X64 fits =
     let body = fits.body in
     let a = length-script_start in
-    let b = length-system_lines options.systems (header_for X64 inputs l.tables) (l.mach_at / 8) (l.mach_len / 8) (small-units options inputs l fits) in
+    let b = length-system_lines options.systems (header_for X64 (placed_inputs inputs l)) (l.mach_at / 8) (l.mach_len / 8) (small-units options inputs l fits) in
     let c = length-machine_start X64 in
     omega arith
 place-room options inputs l A64 fits =
     let body = fits.body in
     let a = length-script_start in
-    let b = length-system_lines options.systems (header_for X64 inputs l.tables) (l.mach_at / 8) (l.mach_len / 8) (small-units options inputs l fits) in
-    let c = length-machine_lines X64 (header_for X64 inputs l.tables) (header-is X64 inputs l.tables) in
+    let b = length-system_lines options.systems (header_for X64 (placed_inputs inputs l)) (l.mach_at / 8) (l.mach_len / 8) (small-units options inputs l fits) in
+    let c = length-machine_lines X64 (header_for X64 (placed_inputs inputs l)) (header-is X64 (placed_inputs inputs l)) in
     let d = length-machine_start A64 in
     omega arith
 
@@ -71,7 +71,7 @@ ending-long options inputs l fits =
 
 -- the delimiter's line and the script
 pub script-behind : (options : Options) (inputs : List Taken) (l : Positions) (number skip count : ℕ) (x y : Option (List ℕ)) (none a b : List ℕ)
-    → number ≡ delimiter_number (body_of options inputs l) → x ≡ header_for X64 inputs l.tables → y ≡ header_for A64 inputs l.tables
+    → number ≡ delimiter_number (body_of options inputs l) → x ≡ header_for X64 (placed_inputs inputs l) → y ≡ header_for A64 (placed_inputs inputs l)
     → skip ≡ l.mach_at / 8 → count ≡ l.mach_len / 8 → none ≡ [] → a ≡ none ++ closing number → b ≡ a ++ script_of options.systems x y skip count → b ≡ closing (delimiter_number (body_of options inputs l)) ++ script_for options inputs l
 script-behind options inputs l number skip count x y none a b n_is x_is y_is s_is c_is empty first second =
     second

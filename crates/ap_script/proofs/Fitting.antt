@@ -1,6 +1,7 @@
 -- What the positions of a linked file that fit its inputs give to those who write program headers.
-use Rattle.std.proofs.Common.{inl, inr, ◌≡◌, ℕ, suc, ◌+◌, ◌<◌, ◌≤◌, List, [], ◌∷◌, ◌++◌, length, zero, Option, Some, None, refl, ap, ◌∙◌, sym, map, get_or, subst, arith}
+use Rattle.std.proofs.Common.{inl, inr, ◌≡◌, ℕ, suc, ◌+◌, ◌<◌, ◌≤◌, List, [], ◌∷◌, ◌++◌, length, zero, Option, Some, None, refl, ap, ◌∙◌, sym, map, get_or, drop, subst, arith}
 use Rattle.std.specs.Prelude.{◌^◌, All}
+use Rattle.std.proofs.lemmas.List.{drop_all, length-map}
 use Rattle.arrayvec.specs.ArrayVec.{ArrayVec}
 use Rattle.ap_fields.specs.Granules.{IsGranule, ceil_of}
 use Rattle.ap_fields.specs.declared.sizes.TheConstants.{BLOCK}
@@ -12,11 +13,8 @@ use Rattle.ap_check.specs.declared.options.Options.{Options}
 use Rattle.ap_check.specs.Inputs.{Taken, Meets, AreLoads}
 use Rattle.ap_layout.specs.declared.layout.Area.{Area}
 use Rattle.ap_layout.specs.Areas.{end_from, after, new_areas, ServeAll}
-use Rattle.ap_claims.specs.declared.owner.Owner.TheVariants.{Elf}
-use Rattle.ap_layout.specs.Positions.{Positions, Fits, FitAll, AreTables, tables_start, inputs_of, joined}
-use Rattle.ap_script.specs.Tables.{table_text}
-use Rattle.ap_script.specs.Claims.{claim, table_claims}
-use Rattle.ap_script.specs.Places.{Placed}
+use Rattle.ap_layout.specs.Positions.{Positions, PlacedInput, Fits, AreServed, AreTables, tables_start, table_length, placed, placed_inputs, only_inputs, all_areas, inputs_of}
+use Rattle.ap_script.specs.Places.{IsKnown, Placed}
 
 is-granule : (m : Machine) → IsGranule (granule_of m)
 is-granule X64 = inl refl
@@ -76,52 +74,92 @@ back-all : (n : ℕ) (xs ys : List Area) → All (λ x. x.file < n) (xs ++ ys) �
 back-all n [] ys h = h
 back-all n (x ∷ xs) ys h = back-all n xs ys (rest-all (λ x. x.file < n) x (xs ++ ys) h)
 
-all-below : (options : Options) (inputs : List Taken) (l : Positions) → Fits options inputs l → All (λ x. x.file < 2 ^ 31) (joined l.areas)
-all-below options inputs l f =
-    let total = f.total in
-    let small = f.small in
-    areas-below BLOCK (2 ^ 31) (joined l.areas) (omega arith)
+-- each input of some is known, where all of them are served
+known-all : (news : List Area) (at end : ℕ) (ps : List PlacedInput) → AreServed news ps → AreTables at ps end → end ≤ 3568 → All (λ x. x.file < 2 ^ 31) (all_areas ps) → All IsKnown ps
+known-all news at end [] served tables low below = none-all IsKnown
+known-all news at end (p ∷ ps) served tables low below =
+    let behind = tables-behind (at + table_length p.input) end ps tables.1 in
+    let place = tables.0 in
+    cons-all IsKnown p ps
+    (record {
+      same = serve-same (granule_of p.input.machine) news p.input.loads p.areas served.0;
+      places = front-all (2 ^ 31) p.areas (all_areas ps) below;
+      table = omega arith;
+    })
+    (known-all news (at + table_length p.input) end ps served.1 tables.1 low (back-all (2 ^ 31) p.areas (all_areas ps) below))
+  where
+    tables-behind : (at end : ℕ) (ps : List PlacedInput) → AreTables at ps end → at ≤ end
+    tables-behind at end [] tables = (let is : end ≡ at = tables in omega arith)
+    tables-behind at end (p ∷ ps) tables = (let later = tables-behind (at + table_length p.input) end ps tables.1 in omega arith)
 
--- the areas of the first of one or two inputs
-same-first : (news a : List Area) (more : List (List Area)) (e : Taken) (o : Option Taken) → FitAll news (inputs_of e o) (a ∷ more) → length a ≡ length e.loads
-same-first news a more e None h = serve-same (granule_of e.machine) news e.loads a h.0
-same-first news a more e (Some f) h = serve-same (granule_of e.machine) news e.loads a h.0
+fits-known : (options : Options) (inputs : List Taken) (l : Positions) → Fits options inputs l → All IsKnown (placed_inputs inputs l)
+fits-known options inputs l fits =
+    let ps = placed_inputs inputs l in
+    let total = fits.total in
+    let small = fits.small in
+    known-all (new_areas BLOCK (all_areas ps)) (tables_start options inputs) l.body_end ps fits.areas fits.tables fits.body (areas-below BLOCK (2 ^ 31) (all_areas ps) (omega arith))
 
-pub first-same : (options : Options) (e : Taken) (o : Option Taken) (l : Positions) (a b : List Area) → Fits options (inputs_of e o) l → l.areas ≡ a ∷ b ∷ [] → length a ≡ length e.loads
-first-same options e o l a b f is = same-first (new_areas BLOCK (joined l.areas)) a (b ∷ []) e o (subst (FitAll (new_areas BLOCK (joined l.areas)) (inputs_of e o)) is f.areas)
+-- ---- the inputs of a job
 
-pub first-below : (options : Options) (inputs : List Taken) (l : Positions) (a b : List Area) → Fits options inputs l → l.areas ≡ a ∷ b ∷ [] → All (λ x. x.file < 2 ^ 31) a
-first-below options inputs l a b f is = front-all (2 ^ 31) a (b ++ []) (subst (λ areas. All (λ x. x.file < 2 ^ 31) (joined areas)) is (all-below options inputs l f))
+-- an input is placed by its number
+placed-at : (inputs rest : List Taken) (lists : List (List Area)) (tables : List ℕ) (i : ℕ) (e : Taken) → only_inputs (placed inputs lists tables) ≡ inputs → drop i inputs ≡ e ∷ rest
+    → drop i (placed inputs lists tables) ≡ record { input = e; areas = get_or lists i []; table = get_or tables i 0 } ∷ drop (suc i) (placed inputs lists tables)
+placed-at [] rest lists tables zero e all is = cc
+placed-at [] rest lists tables (suc i) e all is = cc
+placed-at (x ∷ inputs) rest [] tables i e all is = let none : [] ≡ x ∷ inputs = all in cc
+placed-at (x ∷ inputs) rest (areas ∷ more) [] i e all is = let none : [] ≡ x ∷ inputs = all in cc
+placed-at (x ∷ inputs) rest (areas ∷ more) (t ∷ tables) zero e all is =
+    let same : x ≡ e = cc in
+    ap (λ (y : Taken). record { input = y; areas = areas; table = t } ∷ placed inputs more tables) same
+placed-at (x ∷ inputs) rest (areas ∷ more) (t ∷ tables) (suc i) e all is =
+    let later : only_inputs (placed inputs more tables) ≡ inputs = cc in
+    placed-at inputs rest more tables i e later is
 
--- the areas of the second
-pub second-same : (options : Options) (e f : Taken) (l : Positions) (a b : List Area) → Fits options (e ∷ f ∷ []) l → l.areas ≡ a ∷ b ∷ [] → length b ≡ length f.loads
-second-same options e f l a b h is =
-    let all : FitAll (new_areas BLOCK (joined l.areas)) (e ∷ f ∷ []) (a ∷ b ∷ []) = subst (FitAll (new_areas BLOCK (joined l.areas)) (e ∷ f ∷ [])) is h.areas in
-    serve-same (granule_of f.machine) (new_areas BLOCK (joined l.areas)) f.loads b all.1.0
+-- there is a table for each
+pub tables-enough : (inputs : List Taken) (lists : List (List Area)) (tables : List ℕ) → only_inputs (placed inputs lists tables) ≡ inputs → length inputs ≤ length tables
+tables-enough [] lists tables all = omega arith
+tables-enough (x ∷ inputs) [] tables all = let none : [] ≡ x ∷ inputs = all in absurd (cc)
+tables-enough (x ∷ inputs) (areas ∷ more) [] all = let none : [] ≡ x ∷ inputs = all in absurd (cc)
+tables-enough (x ∷ inputs) (areas ∷ more) (t ∷ tables) all =
+    let later : only_inputs (placed inputs more tables) ≡ inputs = cc in
+    let rest = tables-enough inputs more tables later in
+    omega arith
 
-pub second-below : (options : Options) (inputs : List Taken) (l : Positions) (a b : List Area) → Fits options inputs l → l.areas ≡ a ∷ b ∷ [] → All (λ x. x.file < 2 ^ 31) b
-second-below options inputs l a b f is = front-all (2 ^ 31) b [] (back-all (2 ^ 31) a (b ++ []) (subst (λ areas. All (λ x. x.file < 2 ^ 31) (joined areas)) is (all-below options inputs l f)))
+pub few-inputs : (e : Taken) (o : Option Taken) → length (inputs_of e o) ≤ 2
+few-inputs e None = omega arith
+few-inputs e (Some f) = omega arith
 
--- areas that are others
-pub below-as : (now own : List Area) → now ≡ own → All (λ x. x.file < 2 ^ 31) own → All (λ x. x.file < 2 ^ 31) now
-below-as now own is h = subst (λ l. All (λ x. x.file < 2 ^ 31) l) (sym is) h
+-- what is known of all is known of the next
+known-next : (ps rest : List PlacedInput) (i : ℕ) (p : PlacedInput) → All IsKnown ps → drop i ps ≡ p ∷ rest → IsKnown p
+known-next [] rest zero p h is = cc
+known-next [] rest (suc i) p h is = cc
+known-next (q ∷ ps) rest zero p h is = let same : q ≡ p = cc in subst IsKnown same (h 0 q (omega arith))
+known-next (q ∷ ps) rest (suc i) p h is = known-next ps rest i p (rest-all IsKnown q ps h) is
 
--- the two lists of areas
-pub two-areas : (vs : List (ArrayVec Area)) (v w : ArrayVec Area) → length vs ≡ 2 → map (λ x. x.items) vs ≡ (get_or vs 0 v).items ∷ (get_or vs 1 w).items ∷ []
-two-areas [] v w h = absurd (omega arith)
-two-areas (x ∷ []) v w h = absurd (omega arith)
-two-areas (x ∷ y ∷ []) v w h = refl
-two-areas (x ∷ y ∷ z ∷ vs) v w h = absurd (omega arith)
+-- the input of a number with its places is the next of those that are left, and is known
+pub place-found : (options : Options) (inputs rest : List Taken) (l : Positions) (i : ℕ) (e : Taken) (areas : List Area) (t : ℕ) → Fits options inputs l → drop i inputs ≡ e ∷ rest
+    → areas ≡ get_or l.areas i [] → t ≡ get_or l.tables i 0
+    → let p : PlacedInput = record { input = e; areas = areas; table = t } in (drop i (placed_inputs inputs l) ≡ p ∷ drop (i + 1) (placed_inputs inputs l)) × IsKnown p
+place-found options inputs rest l i e areas t fits is areas_are table_is =
+    let ps = placed_inputs inputs l in
+    let p : PlacedInput = record { input = e; areas = areas; table = t } in
+    let after : drop (suc i) ps ≡ drop (i + 1) ps = ap (λ n. drop n ps) (let one : suc i ≡ i + 1 = omega arith in one) in
+    let next : drop i ps ≡ p ∷ drop (i + 1) ps =
+    placed-at inputs rest l.areas l.tables i e fits.all is
+    ∙ ap (λ (xs : List Area). record { input = e; areas = xs; table = get_or l.tables i 0 } ∷ drop (suc i) ps) (sym areas_are)
+    ∙ ap (λ (n : ℕ). record { input = e; areas = areas; table = n } ∷ drop (suc i) ps) (sym table_is)
+    ∙ ap (λ (qs : List PlacedInput). p ∷ qs) after in
+    (next, known-next ps (drop (i + 1) ps) i p (fits-known options inputs l fits) next)
 
--- the tables of two inputs, claimed one behind the other
-claims-two : (at end : ℕ) (e f : Taken) (areas : List (List Area)) (tables : List ℕ) (a b : List Area) → AreTables at (e ∷ f ∷ []) tables end → areas ≡ a ∷ b ∷ []
-    → claim Elf (get_or tables 0 0) (table_text e a) ∷ claim Elf (get_or tables 1 0) (table_text f b) ∷ [] ≡ table_claims (e ∷ f ∷ []) areas tables
-claims-two at end e f areas [] a b are is = absurd are
-claims-two at end e f areas (t ∷ []) a b are is = absurd are.1
-claims-two at end e f areas (t ∷ u ∷ []) a b are is = rw is refl
-claims-two at end e f areas (t ∷ u ∷ v ∷ more) a b are is = absurd are.1.1
+-- the lists of areas as they are held
+pub areas-held : (vs : List (ArrayVec Area)) (v : ArrayVec Area) (i : ℕ) → i < length vs → get_or (map (λ x. x.items) vs) i [] ≡ (get_or vs i v).items
+areas-held [] v i h = absurd (omega arith)
+areas-held (x ∷ vs) v zero h = refl
+areas-held (x ∷ vs) v (suc i) h = areas-held vs v i (omega arith)
 
-pub two-claims : (options : Options) (e f : Taken) (l : Positions) (a b now later : List Area) (t u : ℕ) → Fits options (e ∷ f ∷ []) l → l.areas ≡ a ∷ b ∷ [] → now ≡ a → later ≡ b → t ≡ get_or l.tables 0 0 → u ≡ get_or l.tables 1 0
-    → claim Elf t (table_text e now) ∷ claim Elf u (table_text f later) ∷ [] ≡ table_claims (e ∷ f ∷ []) l.areas l.tables
-two-claims options e f l a b now later t u fits is now_is later_is t_is u_is =
-    rw (now_is, later_is, t_is, u_is) (claims-two (tables_start options (e ∷ f ∷ [])) l.body_end e f l.areas l.tables a b fits.tables is)
+-- where no input is left, nothing of them is
+pub placed-end : (options : Options) (inputs : List Taken) (l : Positions) (i : ℕ) → Fits options inputs l → length inputs ≤ i → drop i (placed_inputs inputs l) ≡ []
+placed-end options inputs l i fits h =
+    let ps = placed_inputs inputs l in
+    let same : length ps ≡ length inputs = sym (length-map ps (λ p. p.input)) ∙ ap length fits.all in
+    drop_all i ps (omega arith)

@@ -18,7 +18,7 @@ use Rattle.ap_elf.specs.declared.machine.Machine.{Machine}
 use Rattle.ap_elf.specs.declared.machine.Machine.TheVariants.{X64, A64}
 use Rattle.ap_elf.specs.Machines.{number_of}
 use Rattle.ap_check.specs.Inputs.{Taken}
-use Rattle.ap_layout.specs.Positions.{entry_count}
+use Rattle.ap_layout.specs.Positions.{PlacedInput, entry_count}
 use Rattle.ap_script.specs.Tables.{embedded_header, embedded_bytes}
 use Rattle.ap_script.specs.Script.{script_start, has_system, or_tests, system_line, dd_line, darwin_x64_lines, darwin_lines, system_lines, machine_start, machine_end, machine_lines, script_end, script_of, is_machine, header_for}
 use Rattle.ap_script.proofs.Quotes.{both, has_no_quote, no_quote-append}
@@ -126,10 +126,9 @@ header-by : (b : Bool) (m : Machine) (e : Taken) (t : ℕ) (later : Option (List
 header-by true m e t later same rest = is-header m e t (same refl)
 header-by false m e t later same rest = rest
 
-pub header-is : (m : Machine) (inputs : List Taken) (tables : List ℕ) → IfSome (header_for m inputs tables) (IsHeader m)
-header-is m [] tables = tt
-header-is m (e ∷ inputs) [] = tt
-header-is m (e ∷ inputs) (t ∷ tables) = header-by (is_machine m e.machine) m e t (header_for m inputs tables) (is_machine-same m e.machine) (header-is m inputs tables)
+pub header-is : (m : Machine) (ps : List PlacedInput) → IfSome (header_for m ps) (IsHeader m)
+header-is m [] = tt
+header-is m (p ∷ ps) = header-by (is_machine m p.input.machine) m p.input p.table (header_for m ps) (is_machine-same m p.input.machine) (header-is m ps)
 
 -- ---- lengths
 

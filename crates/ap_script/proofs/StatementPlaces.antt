@@ -14,7 +14,7 @@ use Rattle.ap_check.specs.declared.options.Options.{Options}
 use Rattle.ap_elf.specs.declared.machine.Machine.{Machine}
 use Rattle.ap_elf.specs.declared.machine.Machine.TheVariants.{X64, A64}
 use Rattle.ap_check.specs.Inputs.{Taken, Meets}
-use Rattle.ap_layout.specs.Positions.{Positions, Fits}
+use Rattle.ap_layout.specs.Positions.{Positions, Fits, placed_inputs}
 use Rattle.ap_script.specs.Script.{machine_start, machine_lines, script_of, header_for}
 use Rattle.ap_script.specs.Delimiter.{delimiter_number}
 use Rattle.ap_script.specs.Blocks.{opening, body_of, closing, script_for, shell_text, spaces, block_of}
@@ -71,10 +71,10 @@ contained (Some a) (Some b) start k (suc (suc i), low, is) = absurd (omega (arit
 
 -- the parts of the window: the opening, the body, the delimiter's line with the script and the spaces behind it
 marked-behind : (options : Options) (inputs : List Taken) (l : Positions) → Fits options inputs l
-    → Marked (IsBlank (header_for X64 inputs l.tables) (header_for A64 inputs l.tables) (machines_start options inputs l)) l.body_end (behind_body options inputs l)
+    → Marked (IsBlank (header_for X64 (placed_inputs inputs l)) (header_for A64 (placed_inputs inputs l)) (machines_start options inputs l)) l.body_end (behind_body options inputs l)
 marked-behind options inputs l fits =
-    let x = header_for X64 inputs l.tables in
-    let y = header_for A64 inputs l.tables in
+    let x = header_for X64 (placed_inputs inputs l) in
+    let y = header_for A64 (placed_inputs inputs l) in
     let start : ℕ = machines_start options inputs l in
     let number = delimiter_number (body_of options inputs l) in
     let line = length-closing number in
@@ -107,7 +107,7 @@ holds-places options inputs l k meets fits h =
         | inl inside ↦ absurd (not-in-zeros body (k - length (opening number)) (body-zeros options inputs l meets fits) inside)
         | inr (beyond, last) ↦
             (let i : ℕ = k - length (opening number) - length body in
-            marked-holds (IsBlank (header_for X64 inputs l.tables) (header_for A64 inputs l.tables) (machines_start options inputs l)) l.body_end behind i
+            marked-holds (IsBlank (header_for X64 (placed_inputs inputs l)) (header_for A64 (placed_inputs inputs l)) (machines_start options inputs l)) l.body_end behind i
             (marked-behind options inputs l fits) last k (omega arith))
       ]
     ]
@@ -148,29 +148,29 @@ parts-script options inputs l place header fits p =
     (parts-behind body (closing number ++ (script ++ fill)) (length (closing number) + place) header
     (parts-behind (closing number) (script ++ fill) place header (parts-front script fill place header p)))))
 
-pub parts-window : (options : Options) (inputs : List Taken) (l : Positions) (m : Machine) (header : List ℕ) → Fits options inputs l → header_for m inputs l.tables ≡ Some header
+pub parts-window : (options : Options) (inputs : List Taken) (l : Positions) (m : Machine) (header : List ℕ) → Fits options inputs l → header_for m (placed_inputs inputs l) ≡ Some header
     → Parts (window_text options inputs l) (statement_place options inputs l m) header
 parts-window options inputs l X64 header fits is =
-    let x = header_for X64 inputs l.tables in
+    let x = header_for X64 (placed_inputs inputs l) in
     let place : ℕ = place_behind options.systems x (l.mach_at / 8) (l.mach_len / 8) (length (machine_start X64)) in
     let same : l.body_end + (17 + place) ≡ statement_place options inputs l X64 = omega arith in
     subst (λ n. Parts (window_text options inputs l) n header) same
-    (parts-script options inputs l place header fits (script-x64 options.systems x (header_for A64 inputs l.tables) (l.mach_at / 8) (l.mach_len / 8) header is))
+    (parts-script options inputs l place header fits (script-x64 options.systems x (header_for A64 (placed_inputs inputs l)) (l.mach_at / 8) (l.mach_len / 8) header is))
 parts-window options inputs l A64 header fits is =
-    let x = header_for X64 inputs l.tables in
+    let x = header_for X64 (placed_inputs inputs l) in
     let place : ℕ = place_behind options.systems x (l.mach_at / 8) (l.mach_len / 8) (length (machine_lines X64 x) + length (machine_start A64)) in
     let same : l.body_end + (17 + place) ≡ statement_place options inputs l A64 = omega arith in
     subst (λ n. Parts (window_text options inputs l) n header) same
-    (parts-script options inputs l place header fits (script-a64 options.systems x (header_for A64 inputs l.tables) (l.mach_at / 8) (l.mach_len / 8) header is))
+    (parts-script options inputs l place header fits (script-a64 options.systems x (header_for A64 (placed_inputs inputs l)) (l.mach_at / 8) (l.mach_len / 8) header is))
 
-pub parts-block : (options : Options) (inputs : List Taken) (l : Positions) (rest : List ℕ) (m : Machine) (header : List ℕ) → Fits options inputs l → header_for m inputs l.tables ≡ Some header
+pub parts-block : (options : Options) (inputs : List Taken) (l : Positions) (rest : List ℕ) (m : Machine) (header : List ℕ) → Fits options inputs l → header_for m (placed_inputs inputs l) ≡ Some header
     → Parts (block_of options inputs l ++ rest) (statement_place options inputs l m) header
 parts-block options inputs l rest m header fits is =
     subst (λ w. Parts w (statement_place options inputs l m) header) (sym (block-parts options inputs l rest))
     (parts-front (window_text options inputs l) (zeros (BLOCK - WINDOW) ++ rest) (statement_place options inputs l m) header (parts-window options inputs l m header fits is))
 
 -- it ends in the window
-pub place-within : (options : Options) (inputs : List Taken) (l : Positions) (m : Machine) (header : List ℕ) → Fits options inputs l → header_for m inputs l.tables ≡ Some header
+pub place-within : (options : Options) (inputs : List Taken) (l : Positions) (m : Machine) (header : List ℕ) → Fits options inputs l → header_for m (placed_inputs inputs l) ≡ Some header
     → statement_place options inputs l m + length (statement_of header) ≤ WINDOW
 place-within options inputs l m header fits is =
     let p = parts-window options inputs l m header fits is in
@@ -268,14 +268,14 @@ embeds-parts file place m header p within is =
 
 -- ---- exactly there
 
-pub opens-block : (options : Options) (inputs : List Taken) (l : Positions) (rest : List ℕ) (m : Machine) (header : List ℕ) → Fits options inputs l → header_for m inputs l.tables ≡ Some header
+pub opens-block : (options : Options) (inputs : List Taken) (l : Positions) (rest : List ℕ) (m : Machine) (header : List ℕ) → Fits options inputs l → header_for m (placed_inputs inputs l) ≡ Some header
     → Opens (block_of options inputs l ++ rest) (statement_place options inputs l m)
 opens-block options inputs l rest m header fits is =
     opens-parts (block_of options inputs l ++ rest) (statement_place options inputs l m) header (parts-block options inputs l rest m header fits is) (place-within options inputs l m header fits is)
 
 places-open : (options : Options) (inputs : List Taken) (l : Positions) (rest : List ℕ) (k : ℕ) → Fits options inputs l → Contains (statement_places options inputs l) k → Opens (block_of options inputs l ++ rest) k
 places-open options inputs l rest k fits c =
-    elim (contained (header_for X64 inputs l.tables) (header_for A64 inputs l.tables) (machines_start options inputs l) k c) [
+    elim (contained (header_for X64 (placed_inputs inputs l)) (header_for A64 (placed_inputs inputs l)) (machines_start options inputs l) k c) [
       | inl (header, is, at) ↦ subst (Opens (block_of options inputs l ++ rest)) (sym at) (opens-block options inputs l rest X64 header fits is)
       | inr (header, is, at) ↦ subst (Opens (block_of options inputs l ++ rest)) (sym at) (opens-block options inputs l rest A64 header fits is)
     ]

@@ -12,7 +12,7 @@ use Rattle.ap_elf.specs.Machines.{granule_of}
 use Rattle.ap_check.specs.Inputs.{Taken}
 use Rattle.ap_layout.specs.declared.layout.Area.{Area}
 use Rattle.ap_layout.specs.Areas.{ServeAll}
-use Rattle.ap_layout.specs.Positions.{one_if, entry_count, table_length, FitAll, AreTables}
+use Rattle.ap_layout.specs.Positions.{PlacedInput, one_if, entry_count, table_length, AreServed, AreTables}
 use Rattle.ap_script.specs.Tables.{load_entries, stack_entries, note_entry, tls_entries, table_of, table_text}
 use Rattle.ap_script.specs.Blocks.{tables_text}
 use Rattle.ap_script.specs.Stands.{HoldsTables}
@@ -65,33 +65,27 @@ pub length-table_text : (news : List Area) (e : Taken) (areas : List Area) → S
 length-table_text news e areas h = length-table_bytes (table_of e areas) ∙ ap (λ n. 56 * n) (length-table_of news e areas h)
 
 -- the tables end where their last one does
-pub length-tables : (news : List Area) (at end : ℕ) (inputs : List Taken) (more : List (List Area)) (tables : List ℕ) → FitAll news inputs more → AreTables at inputs tables end
-    → at + length (tables_text inputs more) ≡ end
-length-tables news at end [] more [] fits are = (let e : end ≡ at = are in omega arith)
-length-tables news at end [] more (t ∷ tables) fits are = absurd are
-length-tables news at end (e ∷ inputs) [] tables fits are = absurd fits
-length-tables news at end (e ∷ inputs) (areas ∷ more) [] fits are = absurd are
-length-tables news at end (e ∷ inputs) (areas ∷ more) (t ∷ tables) fits are =
-    let here = length-table_text news e areas fits.0 in
-    let rest = length-tables news (at + table_length e) end inputs more tables fits.1 are.1 in
-    let a = length-append (table_text e areas) (tables_text inputs more) in
+pub length-tables : (news : List Area) (at end : ℕ) (ps : List PlacedInput) → AreServed news ps → AreTables at ps end → at + length (tables_text ps) ≡ end
+length-tables news at end [] served are = (let e : end ≡ at = are in omega arith)
+length-tables news at end (p ∷ ps) served are =
+    let here = length-table_text news p.input p.areas served.0 in
+    let rest = length-tables news (at + table_length p.input) end ps served.1 are.1 in
+    let a = length-append (table_text p.input p.areas) (tables_text ps) in
     omega arith
 
 -- each stands behind those before it
-pub holds-tables : (news : List Area) (at end : ℕ) (inputs : List Taken) (more : List (List Area)) (tables front behind : List ℕ) → FitAll news inputs more → AreTables at inputs tables end
-    → length front ≡ at → HoldsTables (front ++ (tables_text inputs more ++ behind)) inputs more tables
-holds-tables news at end [] more tables front behind fits are long = tt
-holds-tables news at end (e ∷ inputs) [] tables front behind fits are long = absurd fits
-holds-tables news at end (e ∷ inputs) (areas ∷ more) [] front behind fits are long = absurd are
-holds-tables news at end (e ∷ inputs) (areas ∷ more) (t ∷ tables) front behind fits are long =
-    let here = table_text e areas in
-    let rest = tables_text inputs more in
-    let there : t ≡ length front = are.0 ∙ sym long in
-    let size = length-table_text news e areas fits.0 in
+pub holds-tables : (news : List Area) (at end : ℕ) (ps : List PlacedInput) (front behind : List ℕ) → AreServed news ps → AreTables at ps end
+    → length front ≡ at → HoldsTables (front ++ (tables_text ps ++ behind)) ps
+holds-tables news at end [] front behind served are long = tt
+holds-tables news at end (p ∷ ps) front behind served are long =
+    let here = table_text p.input p.areas in
+    let rest = tables_text ps in
+    let there : p.table ≡ length front = are.0 ∙ sym long in
+    let size = length-table_text news p.input p.areas served.0 in
     let joined = length-append front here in
     let one : front ++ ((here ++ rest) ++ behind) ≡ front ++ (here ++ (rest ++ behind)) = ap (λ r. front ++ r) (append_assoc here rest behind) in
     let two : (front ++ here) ++ (rest ++ behind) ≡ front ++ ((here ++ rest) ++ behind) = append_assoc front here (rest ++ behind) ∙ sym one in (
-      subst (λ w. Holds w t here) (sym one) (holds-part front here (rest ++ behind) t there),
-      subst (λ w. HoldsTables w inputs more tables) two
-          (holds-tables news (at + table_length e) end inputs more tables (front ++ here) behind fits.1 are.1 (omega arith)),
+      subst (λ w. Holds w p.table here) (sym one) (holds-part front here (rest ++ behind) p.table there),
+      subst (λ w. HoldsTables w ps) two
+          (holds-tables news (at + table_length p.input) end ps (front ++ here) behind served.1 are.1 (omega arith)),
     )

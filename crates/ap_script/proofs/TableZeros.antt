@@ -1,5 +1,5 @@
 -- Each eighth byte of a program header table is zero.
-use Rattle.std.proofs.Common.{◌≡◌, ◌⊎◌, inl, inr, ℕ, zero, suc, ◌+◌, ◌*◌, ◌-◌, ◌/◌, ◌%◌, ◌^◌, ◌≤◌, ◌<◌, ◌==◌, ◌&&◌, ◌||◌, not, cond, Bool, true, false, List, [], ◌∷◌, ◌++◌, length, map, get_or, refl, ap, ◌∙◌, arith, Option, Some, None, nat_le, nat_lt}
+use Rattle.std.proofs.Common.{◌≡◌, ◌⊎◌, inl, inr, ℕ, zero, suc, ◌+◌, ◌*◌, ◌-◌, ◌/◌, ◌%◌, ◌^◌, ◌≤◌, ◌<◌, ◌==◌, ◌&&◌, ◌||◌, not, cond, Bool, true, false, List, [], ◌∷◌, ◌++◌, length, map, get_or, refl, sym, ap, ◌∙◌, subst, arith, Option, Some, None, nat_le, nat_lt}
 use Rattle.std.specs.Prelude.{All, IfSome, bit_and}
 use Rattle.std.specs.Int.{byte_at}
 use Rattle.std.specs.List.{flat_map}
@@ -22,7 +22,7 @@ use Rattle.ap_check.specs.declared.options.Options.{Options}
 use Rattle.ap_check.specs.Inputs.{Taken, IsLoad, AreLoads, IsTls, Meets, has_part, in_part, is_note}
 use Rattle.ap_layout.specs.declared.layout.Area.{Area}
 use Rattle.ap_layout.specs.Areas.{end_of, after, end_from, is_new, new_areas, Among, Serves, ServeAll}
-use Rattle.ap_layout.specs.Positions.{Positions, Fits, FitAll, joined, entry_count}
+use Rattle.ap_layout.specs.Positions.{Positions, Fits, entry_count, PlacedInput, AreServed, all_areas, only_inputs, placed_inputs}
 use Rattle.ap_script.specs.Tables.{load_entry, load_entries, stack_entries, is_backed, place_of, note_entry, tls_entries, table_of, table_text}
 use Rattle.ap_script.specs.Blocks.{tables_text, body_of}
 use Rattle.ap_script.specs.Stands.{HasZeros}
@@ -133,9 +133,9 @@ among-end c (b ∷ areas) a (inl is) =
     omega arith
 among-end c (b ∷ areas) a (inr later) = among-end (after c b) areas a later
 
-pub news-low : (options : Options) (inputs : List Taken) (l : Positions) → Fits options inputs l → NewsLow (new_areas BLOCK (joined l.areas))
+pub news-low : (options : Options) (inputs : List Taken) (l : Positions) → Fits options inputs l → NewsLow (new_areas BLOCK (all_areas (placed_inputs inputs l)))
 news-low options inputs l f a h =
-    let end = among-end BLOCK (joined l.areas) a (among-new BLOCK (joined l.areas) a h) in
+    let end = among-end BLOCK (all_areas (placed_inputs inputs l)) a (among-new BLOCK (all_areas (placed_inputs inputs l)) a h) in
     let total = f.total in
     let small = f.small in
     omega arith
@@ -282,14 +282,13 @@ short-table news e areas meets low s =
     (short-append (stack_entries e.stack) (notes ++ tls) (short-stack e.stack)
     (short-append notes tls (short-notes g e.size e.loads areas e.notes meets.loads lows meets.notes) (short-tls g e.size e.loads areas e.tls meets.loads lows meets.tls)))
 
-eighths-tables : (news : List Area) (inputs : List Taken) (more : List (List Area)) → All Meets inputs → NewsLow news → FitAll news inputs more → Eighths (tables_text inputs more)
-eighths-tables news [] more meets low fits = λ i. refl
-eighths-tables news (e ∷ inputs) [] meets low fits = absurd fits
-eighths-tables news (e ∷ inputs) (areas ∷ more) meets low fits =
-    let long = length-table_text news e areas fits.0 in
-    eighths-append (7 * entry_count e) (table_text e areas) (tables_text inputs more) (omega arith)
-    (eighths-table (table_of e areas) (short-table news e areas (meets 0 e (omega arith)) low fits.0))
-    (eighths-tables news inputs more (λ k d low. meets (suc k) d (omega arith)) low fits.1)
+eighths-tables : (news : List Area) (ps : List PlacedInput) → All Meets (only_inputs ps) → NewsLow news → AreServed news ps → Eighths (tables_text ps)
+eighths-tables news [] meets low served = λ i. refl
+eighths-tables news (p ∷ ps) meets low served =
+    let long = length-table_text news p.input p.areas served.0 in
+    eighths-append (7 * entry_count p.input) (table_text p.input p.areas) (tables_text ps) (omega arith)
+    (eighths-table (table_of p.input p.areas) (short-table news p.input p.areas (meets 0 p.input (omega arith)) low served.0))
+    (eighths-tables news ps (λ k d low. meets (suc k) d (omega arith)) low served.1)
 
 -- ---- the body
 
@@ -311,4 +310,6 @@ zeros-by text h k fits =
 
 pub body-zeros : (options : Options) (inputs : List Taken) (l : Positions) → All Meets inputs → Fits options inputs l → HasZeros (body_of options inputs l)
 unfolding body_of
-body-zeros options inputs l meets fits = zeros-by (tables_text inputs l.areas) (eighths-tables (new_areas BLOCK (joined l.areas)) inputs l.areas meets (news-low options inputs l fits) fits.areas)
+body-zeros options inputs l meets fits =
+    let ps = placed_inputs inputs l in
+    zeros-by (tables_text ps) (eighths-tables (new_areas BLOCK (all_areas ps)) ps (subst (All Meets) (sym fits.all) meets) (news-low options inputs l fits) fits.areas)

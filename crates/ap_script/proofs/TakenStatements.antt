@@ -19,11 +19,11 @@ use Rattle.ap_elf.specs.declared.machine.Machine.{Machine}
 use Rattle.ap_elf.specs.declared.machine.Machine.TheVariants.{X64, A64}
 use Rattle.ap_elf.specs.Machines.{number_of}
 use Rattle.ap_check.specs.Inputs.{Taken, Meets}
-use Rattle.ap_layout.specs.Positions.{Positions, Fits, AreTables, table_length, tables_start}
+use Rattle.ap_layout.specs.Positions.{Positions, PlacedInput, Fits, only_inputs, placed_inputs}
 use Rattle.ap_script.specs.Tables.{embedded_bytes}
 use Rattle.ap_script.specs.Script.{machine_start, machine_end, machine_lines, is_machine, header_for}
 use Rattle.ap_script.specs.Blocks.{block_of}
-use Rattle.ap_script.specs.Stands.{MachinesDiffer, HasTable, machines_start, statement_place, statement_places, place_if}
+use Rattle.ap_script.specs.Stands.{MachinesDiffer, IsOneOf, machines_start, statement_place, statement_places, place_if}
 use Rattle.ap_script.proofs.ScriptParts.{IsHeader, header-is}
 use Rattle.ap_script.proofs.BlockParts.{block-magic}
 use Rattle.ap_script.proofs.StatementPlaces.{contained, opens-places, opens-block, parts-block, place-within, embeds-parts}
@@ -32,12 +32,12 @@ is-some : (m : Machine) (found : Option (List ℕ)) (header : List ℕ) → IfSo
 is-some m found header h is = subst (λ o. IfSome o (IsHeader m)) is h
 
 -- a machine's statement as a loader for a machine of a number reads it
-header-there : (options : Options) (inputs : List Taken) (l : Positions) (rest : List ℕ) (n : ℕ) (m : Machine) (header : List ℕ) → Fits options inputs l → header_for m inputs l.tables ≡ Some header
+header-there : (options : Options) (inputs : List Taken) (l : Positions) (rest : List ℕ) (n : ℕ) (m : Machine) (header : List ℕ) → Fits options inputs l → header_for m (placed_inputs inputs l) ≡ Some header
     → header_at n (take WINDOW (block_of options inputs l ++ rest)) (statement_place options inputs l m) ≡ cond (number_of m == n) (Some header) None
 header-there options inputs l rest n m header fits is =
     let file = block_of options inputs l ++ rest in
     let place : ℕ = statement_place options inputs l m in
-    let is_header = is-some m (header_for m inputs l.tables) header (header-is m inputs l.tables) is in
+    let is_header = is-some m (header_for m (placed_inputs inputs l)) header (header-is m (placed_inputs inputs l)) is in
     let long = is_header.long in
     header_at-embeds n file place (place + 8 + length (octals_of header)) header header (opens-block options inputs l rest m header fits is)
     (embeds-parts file place m header (parts-block options inputs l rest m header fits is) (place-within options inputs l m header fits is) is_header)
@@ -45,19 +45,19 @@ header-there options inputs l rest n m header fits is =
     ∙ ap (λ b. cond b (Some header) None) (is_header.begins n)
 
 -- the places ascend
-places-ascend : (options : Options) (inputs : List Taken) (l : Positions) (header : List ℕ) → header_for X64 inputs l.tables ≡ Some header → statement_place options inputs l X64 ≤ statement_place options inputs l A64
+places-ascend : (options : Options) (inputs : List Taken) (l : Positions) (header : List ℕ) → header_for X64 (placed_inputs inputs l) ≡ Some header → statement_place options inputs l X64 ≤ statement_place options inputs l A64
 places-ascend options inputs l header is =
     let lines = ap (λ o. length (machine_lines X64 o)) is in
     let a = length-append (machine_start X64) (statement_of header ++ machine_end) in
     omega arith
 
 -- in front of the x86-64 statement there is none
-before-x64 : (options : Options) (inputs : List Taken) (l : Positions) (rest header : List ℕ) (j : ℕ) → All Meets inputs → Fits options inputs l → header_for X64 inputs l.tables ≡ Some header
+before-x64 : (options : Options) (inputs : List Taken) (l : Positions) (rest header : List ℕ) (j : ℕ) → All Meets inputs → Fits options inputs l → header_for X64 (placed_inputs inputs l) ≡ Some header
     → j < statement_place options inputs l X64 → header_at 62 (take WINDOW (block_of options inputs l ++ rest)) j ≡ None
 before-x64 options inputs l rest header j meets fits is low =
     let ascend = places-ascend options inputs l header is in
     header_at-closed 62 (block_of options inputs l ++ rest) j (λ o.
-    elim (contained (header_for X64 inputs l.tables) (header_for A64 inputs l.tables) (machines_start options inputs l) j (opens-places options inputs l rest j meets fits o)) [
+    elim (contained (header_for X64 (placed_inputs inputs l)) (header_for A64 (placed_inputs inputs l)) (machines_start options inputs l) j (opens-places options inputs l rest j meets fits o)) [
       | inl (h, some, at) ↦ omega arith
       | inr (h, some, at) ↦ omega arith
     ])
@@ -67,16 +67,16 @@ before-a64 : (options : Options) (inputs : List Taken) (l : Positions) (rest : L
     → j < statement_place options inputs l A64 → header_at 183 (take WINDOW (block_of options inputs l ++ rest)) j ≡ None
 before-a64 options inputs l rest j meets fits low =
     let file = block_of options inputs l ++ rest in
-    elim (which (header_for X64 inputs l.tables)) [
+    elim (which (header_for X64 (placed_inputs inputs l))) [
       | inr none ↦ header_at-closed 183 file j (λ o.
-          elim (contained (header_for X64 inputs l.tables) (header_for A64 inputs l.tables) (machines_start options inputs l) j (opens-places options inputs l rest j meets fits o)) [
+          elim (contained (header_for X64 (placed_inputs inputs l)) (header_for A64 (placed_inputs inputs l)) (machines_start options inputs l) j (opens-places options inputs l rest j meets fits o)) [
             | inl (h, some, at) ↦ none h some
             | inr (h, some, at) ↦ omega arith
           ])
       | inl (first, is) ↦ elim (same_or j (statement_place options inputs l X64)) [
         | inl here ↦ ap (header_at 183 (take WINDOW file)) here ∙ header-there options inputs l rest 183 X64 first fits is
         | inr other ↦ header_at-closed 183 file j (λ o.
-            elim (contained (header_for X64 inputs l.tables) (header_for A64 inputs l.tables) (machines_start options inputs l) j (opens-places options inputs l rest j meets fits o)) [
+            elim (contained (header_for X64 (placed_inputs inputs l)) (header_for A64 (placed_inputs inputs l)) (machines_start options inputs l) j (opens-places options inputs l rest j meets fits o)) [
               | inl (h, some, at) ↦ other at
               | inr (h, some, at) ↦ omega arith
             ])
@@ -94,7 +94,7 @@ before-a64 options inputs l rest j meets fits low =
           | inr high ↦ elim (cases_lt b a) [ inl above ↦ inr (λ e. omega arith) | inr equal ↦ inl (omega arith) ]
         ]
 
-pub taken-block : (options : Options) (inputs : List Taken) (l : Positions) (rest : List ℕ) (m : Machine) (header : List ℕ) → All Meets inputs → Fits options inputs l → header_for m inputs l.tables ≡ Some header
+pub taken-block : (options : Options) (inputs : List Taken) (l : Positions) (rest : List ℕ) (m : Machine) (header : List ℕ) → All Meets inputs → Fits options inputs l → header_for m (placed_inputs inputs l) ≡ Some header
     → taken (number_of m) (block_of options inputs l ++ rest) ≡ Some (statement_place options inputs l m, header)
 taken-block options inputs l rest X64 header meets fits is =
     let file = block_of options inputs l ++ rest in
@@ -119,30 +119,31 @@ is_machine-other A64 A64 other = absurd (other refl)
 is_machine-other X64 A64 other = refl
 is_machine-other A64 X64 other = refl
 
-has-apart : (inputs : List Taken) (tables : List ℕ) (m : Machine) (f : Taken) (u : ℕ) → All (λ e. m ≢ e.machine) inputs → HasTable inputs tables f u → m ≢ f.machine
-has-apart [] tables m f u apart has = absurd has
-has-apart (e ∷ inputs) [] m f u apart has = absurd has
-has-apart (e ∷ inputs) (t ∷ tables) m f u apart (inl both) = λ same. apart 0 e (omega arith) (same ∙ ap (λ (x : Taken). x.machine) (sym both.0))
-has-apart (e ∷ inputs) (t ∷ tables) m f u apart (inr later) = has-apart inputs tables m f u (λ k d low. apart (suc k) d (omega arith)) later
+has-apart : (ps : List PlacedInput) (m : Machine) (q : PlacedInput) → All (λ e. m ≢ e.machine) (only_inputs ps) → IsOneOf q ps → m ≢ q.input.machine
+has-apart [] m q apart has = absurd has
+has-apart (p ∷ ps) m q apart (inl is) = λ same. apart 0 p.input (omega arith) (same ∙ ap (λ (x : PlacedInput). x.input.machine) (sym is))
+has-apart (p ∷ ps) m q apart (inr later) = has-apart ps m q (λ k d low. apart (suc k) d (omega arith)) later
 
-pub header_for-input : (inputs : List Taken) (tables : List ℕ) (f : Taken) (u : ℕ) → MachinesDiffer inputs → HasTable inputs tables f u → header_for f.machine inputs tables ≡ Some (embedded_bytes f u)
-header_for-input [] tables f u differ has = absurd has
-header_for-input (e ∷ inputs) [] f u differ has = absurd has
-header_for-input (e ∷ inputs) (t ∷ tables) f u differ (inl both) =
-    ap (λ m. cond (is_machine m e.machine) (Some (embedded_bytes e t)) (header_for m inputs tables)) (ap (λ (x : Taken). x.machine) (sym both.0))
-    ∙ ap (λ b. cond b (Some (embedded_bytes e t)) (header_for e.machine inputs tables)) (is_machine-self e.machine)
-    ∙ ap (λ (x : Taken). Some (embedded_bytes x t)) both.0
-    ∙ ap (λ n. Some (embedded_bytes f n)) both.1
-header_for-input (e ∷ inputs) (t ∷ tables) f u differ (inr later) =
-    ap (λ b. cond b (Some (embedded_bytes e t)) (header_for f.machine inputs tables)) (is_machine-other f.machine e.machine (has-apart inputs tables e.machine f u differ.0 later))
-    ∙ header_for-input inputs tables f u differ.1 later
+header_of-input : (ps : List PlacedInput) (q : PlacedInput) → MachinesDiffer (only_inputs ps) → IsOneOf q ps → header_for q.input.machine ps ≡ Some (embedded_bytes q.input q.table)
+header_of-input [] q differ has = absurd has
+header_of-input (p ∷ ps) q differ (inl is) =
+    ap (λ (x : PlacedInput). header_for x.input.machine (p ∷ ps)) (sym is)
+    ∙ ap (λ b. cond b (Some (embedded_bytes p.input p.table)) (header_for p.input.machine ps)) (is_machine-self p.input.machine)
+    ∙ ap (λ (x : PlacedInput). Some (embedded_bytes x.input x.table)) is
+header_of-input (p ∷ ps) q differ (inr later) =
+    ap (λ b. cond b (Some (embedded_bytes p.input p.table)) (header_for q.input.machine ps))
+    (is_machine-other q.input.machine p.input.machine (has-apart ps p.input.machine q differ.0 later))
+    ∙ header_of-input ps q differ.1 later
 
-none-for : (m : Machine) (inputs : List Taken) (tables : List ℕ) → All (λ f. m ≢ f.machine) inputs → header_for m inputs tables ≡ None
-none-for m [] tables apart = refl
-none-for m (e ∷ inputs) [] apart = refl
-none-for m (e ∷ inputs) (t ∷ tables) apart =
-    ap (λ b. cond b (Some (embedded_bytes e t)) (header_for m inputs tables)) (is_machine-other m e.machine (λ same. apart 0 e (omega arith) (sym same)))
-    ∙ none-for m inputs tables (λ k d low. apart (suc k) d (omega arith))
+pub header_for-input : (options : Options) (inputs : List Taken) (l : Positions) (p : PlacedInput) → MachinesDiffer inputs → Fits options inputs l → IsOneOf p (placed_inputs inputs l)
+    → header_for p.input.machine (placed_inputs inputs l) ≡ Some (embedded_bytes p.input p.table)
+header_for-input options inputs l p differ fits has = header_of-input (placed_inputs inputs l) p (subst MachinesDiffer (sym fits.all) differ) has
+
+none-for : (m : Machine) (ps : List PlacedInput) → All (λ e. m ≢ e.machine) (only_inputs ps) → header_for m ps ≡ None
+none-for m [] apart = refl
+none-for m (p ∷ ps) apart =
+    ap (λ b. cond b (Some (embedded_bytes p.input p.table)) (header_for m ps)) (is_machine-other m p.input.machine (λ same. apart 0 p.input (omega arith) (sym same)))
+    ∙ none-for m ps (λ k d low. apart (suc k) d (omega arith))
 
 -- ---- one statement for each input
 
@@ -161,30 +162,20 @@ one-more : (m : Machine) (header : List ℕ) (x y : Option (List ℕ)) → (m �
 one-more X64 header x y first second = (let none : some_if x ≡ 0 = ap some_if (first refl) in omega arith)
 one-more A64 header x y first second = (let none : some_if y ≡ 0 = ap some_if (second refl) in omega arith)
 
-count-headers : (at end : ℕ) (inputs : List Taken) (tables : List ℕ) → MachinesDiffer inputs → AreTables at inputs tables end
-    → some_if (header_for X64 inputs tables) + some_if (header_for A64 inputs tables) ≡ length inputs
-count-headers at end [] tables differ are = refl
-count-headers at end (e ∷ inputs) [] differ are = absurd are
-count-headers at end (e ∷ inputs) (t ∷ tables) differ are =
-    one-more e.machine (embedded_bytes e t) (header_for X64 inputs tables) (header_for A64 inputs tables)
-    (λ same. none-for X64 inputs tables (subst (λ m. All (λ f. m ≢ f.machine) inputs) same differ.0))
-    (λ same. none-for A64 inputs tables (subst (λ m. All (λ f. m ≢ f.machine) inputs) same differ.0))
-    ∙ ap suc (count-headers (at + table_length e) end inputs tables differ.1 are.1)
+count-headers : (ps : List PlacedInput) → MachinesDiffer (only_inputs ps) → some_if (header_for X64 ps) + some_if (header_for A64 ps) ≡ length (only_inputs ps)
+count-headers [] differ = refl
+count-headers (p ∷ ps) differ =
+    one-more p.input.machine (embedded_bytes p.input p.table) (header_for X64 ps) (header_for A64 ps)
+    (λ same. none-for X64 ps (subst (λ m. All (λ f. m ≢ f.machine) (only_inputs ps)) same differ.0))
+    (λ same. none-for A64 ps (subst (λ m. All (λ f. m ≢ f.machine) (only_inputs ps)) same differ.0))
+    ∙ ap suc (count-headers ps differ.1)
 
 pub count-places : (options : Options) (inputs : List Taken) (l : Positions) → MachinesDiffer inputs → Fits options inputs l → length (statement_places options inputs l) ≡ length inputs
 count-places options inputs l differ fits =
-    length-places (header_for X64 inputs l.tables) (header_for A64 inputs l.tables) (statement_place options inputs l X64) (statement_place options inputs l A64)
-    ∙ count-headers (tables_start options inputs) l.body_end inputs l.tables differ fits.tables
-
--- ---- where the first two tables stand
-
-pub has-first : (at end : ℕ) (e : Taken) (inputs : List Taken) (tables : List ℕ) → AreTables at (e ∷ inputs) tables end → HasTable (e ∷ inputs) tables e at
-has-first at end e inputs [] are = absurd are
-has-first at end e inputs (t ∷ tables) are = inl (refl, are.0)
-
-pub has-second : (at end : ℕ) (e f : Taken) (inputs : List Taken) (tables : List ℕ) → AreTables at (e ∷ f ∷ inputs) tables end → HasTable (e ∷ f ∷ inputs) tables f (at + table_length e)
-has-second at end e f inputs [] are = absurd are
-has-second at end e f inputs (t ∷ tables) are = inr (has-first (at + table_length e) end f inputs tables are.1)
+    let ps = placed_inputs inputs l in
+    length-places (header_for X64 ps) (header_for A64 ps) (statement_place options inputs l X64) (statement_place options inputs l A64)
+    ∙ count-headers ps (subst MachinesDiffer (sym fits.all) differ)
+    ∙ ap length fits.all
 
 -- ---- other machines
 
@@ -192,13 +183,13 @@ other-machine : (m : Machine) (n : ℕ) (inputs : List Taken) → All (λ e. num
 other-machine m n inputs apart is k d low = λ same. apart k d low (ap number_of (sym same) ∙ is)
 
 -- a header in the script is for the machine of an input
-header-machine : (m : Machine) (n : ℕ) (inputs : List Taken) (tables header : List ℕ) → All (λ e. number_of e.machine ≢ n) inputs → header_for m inputs tables ≡ Some header → number_of m ≢ n
-header-machine m n inputs tables header apart is same = let none : None ≡ Some header = sym (none-for m inputs tables (other-machine m n inputs apart same)) ∙ is in cc
+header-machine : (m : Machine) (n : ℕ) (ps : List PlacedInput) (header : List ℕ) → All (λ e. number_of e.machine ≢ n) (only_inputs ps) → header_for m ps ≡ Some header → number_of m ≢ n
+header-machine m n ps header apart is same = let none : None ≡ Some header = sym (none-for m ps (other-machine m n (only_inputs ps) apart same)) ∙ is in cc
 
 nothing-there : (options : Options) (inputs : List Taken) (l : Positions) (rest : List ℕ) (n : ℕ) (m : Machine) (header : List ℕ) (j : ℕ) → Fits options inputs l → All (λ e. number_of e.machine ≢ n) inputs
-    → header_for m inputs l.tables ≡ Some header → j ≡ statement_place options inputs l m → header_at n (take WINDOW (block_of options inputs l ++ rest)) j ≡ None
+    → header_for m (placed_inputs inputs l) ≡ Some header → j ≡ statement_place options inputs l m → header_at n (take WINDOW (block_of options inputs l ++ rest)) j ≡ None
 nothing-there options inputs l rest n m header j fits apart is at =
-    let other = header-machine m n inputs l.tables header apart is in
+    let other = header-machine m n (placed_inputs inputs l) header (subst (All (λ e. number_of e.machine ≢ n)) (sym fits.all) apart) is in
     let test : (number_of m == n) ≡ false = grind (arith, nat_tests) in
     ap (header_at n (take WINDOW (block_of options inputs l ++ rest))) at
     ∙ header-there options inputs l rest n m header fits is
@@ -209,7 +200,7 @@ nothing-at : (options : Options) (inputs : List Taken) (l : Positions) (rest : L
 nothing-at options inputs l rest n j meets fits apart =
     elim (cases_Bool (occurs_at (take WINDOW (block_of options inputs l ++ rest)) (codes "printf '") j)) [
       | inl there ↦
-          elim (contained (header_for X64 inputs l.tables) (header_for A64 inputs l.tables) (machines_start options inputs l) j
+          elim (contained (header_for X64 (placed_inputs inputs l)) (header_for A64 (placed_inputs inputs l)) (machines_start options inputs l) j
           (opens-places options inputs l rest j meets fits (window-opens (block_of options inputs l ++ rest) j (OccursAt-true (take WINDOW (block_of options inputs l ++ rest)) (codes "printf '") j there)))) [
             | inl (h, some, at) ↦ nothing-there options inputs l rest n X64 h j fits apart some at
             | inr (h, some, at) ↦ nothing-there options inputs l rest n A64 h j fits apart some at
@@ -238,12 +229,12 @@ places-order-by (Some header) start =
 
 -- they ascend, whatever inputs there are
 pub places-order : (options : Options) (inputs : List Taken) (l : Positions) → statement_place options inputs l X64 < statement_place options inputs l A64
-places-order options inputs l = places-order-by (header_for X64 inputs l.tables) (machines_start options inputs l)
+places-order options inputs l = places-order-by (header_for X64 (placed_inputs inputs l)) (machines_start options inputs l)
 
 -- ---- what the statement of an input embeds
 
-pub embeds-block : (options : Options) (inputs : List Taken) (l : Positions) (rest : List ℕ) (m : Machine) (header : List ℕ) → Fits options inputs l → header_for m inputs l.tables ≡ Some header
+pub embeds-block : (options : Options) (inputs : List Taken) (l : Positions) (rest : List ℕ) (m : Machine) (header : List ℕ) → Fits options inputs l → header_for m (placed_inputs inputs l) ≡ Some header
     → Embeds (block_of options inputs l ++ rest) (statement_place options inputs l m) (statement_place options inputs l m + 8 + length (octals_of header)) header
 embeds-block options inputs l rest m header fits is =
     embeds-parts (block_of options inputs l ++ rest) (statement_place options inputs l m) m header (parts-block options inputs l rest m header fits is)
-    (place-within options inputs l m header fits is) (is-some m (header_for m inputs l.tables) header (header-is m inputs l.tables) is)
+    (place-within options inputs l m header fits is) (is-some m (header_for m (placed_inputs inputs l)) header (header-is m (placed_inputs inputs l)) is)

@@ -1,13 +1,13 @@
 -- The block of a linked file, its first 16384 bytes: a shell script that holds the program header tables as the body of a
 -- here-document, and an empty second half.
-use Rattle.std.specs.Prelude.{ℕ, ◌-◌, ◌/◌, List, [], ◌∷◌, ◌++◌, length, replicate, codes}
+use Rattle.std.specs.Prelude.{ℕ, ◌-◌, ◌/◌, List, ◌++◌, length, replicate, codes}
+use Rattle.std.specs.List.{flat_map}
 use Rattle.ap_fields.specs.declared.sizes.TheConstants.{BLOCK, WINDOW}
 use Rattle.ap_fields.specs.Bytes.{zeros}
 use Rattle.ap_elf.specs.declared.machine.Machine.TheVariants.{X64, A64}
 use Rattle.ap_check.specs.declared.options.Options.{Options}
 use Rattle.ap_check.specs.Inputs.{Taken}
-use Rattle.ap_layout.specs.declared.layout.Area.{Area}
-use Rattle.ap_layout.specs.Positions.{Positions}
+use Rattle.ap_layout.specs.Positions.{Positions, PlacedInput, placed_inputs}
 use Rattle.ap_script.specs.Delimiter.{delimiter, delimiter_number}
 use Rattle.ap_script.specs.Tables.{table_text}
 use Rattle.ap_script.specs.Script.{script_of, header_for}
@@ -29,14 +29,12 @@ unfoldable pub opening : ℕ → List ℕ
 opening number = magic_line ++ (zeros 55 ++ opening_line number)
 
 -- the program header tables of some inputs, one behind the other
-abbrev pub tables_text : List Taken → List (List Area) → List ℕ
-tables_text [] areas = []
-tables_text (e ∷ inputs) [] = []
-tables_text (e ∷ inputs) (areas ∷ more) = table_text e areas ++ tables_text inputs more
+abbrev pub tables_text : List PlacedInput → List ℕ
+tables_text ps = flat_map (λ p. table_text p.input p.areas) ps
 
 -- the here-document's body, from 86 on: zeros up to 96, where the tables stand
 unfoldable pub body_of : Options → List Taken → Positions → List ℕ
-body_of options inputs l = zeros 10 ++ tables_text inputs l.areas
+body_of options inputs l = zeros 10 ++ tables_text (placed_inputs inputs l)
 
 -- the line that ends the here-document
 unfoldable pub closing : ℕ → List ℕ
@@ -44,7 +42,7 @@ closing number = codes "\n" ++ (delimiter number ++ codes "\n")
 
 -- the script, by the inputs and the positions
 abbrev pub script_for : Options → List Taken → Positions → List ℕ
-script_for options inputs l = script_of options.systems (header_for X64 inputs l.tables) (header_for A64 inputs l.tables) (l.mach_at / 8) (l.mach_len / 8)
+script_for options inputs l = script_of options.systems (header_for X64 (placed_inputs inputs l)) (header_for A64 (placed_inputs inputs l)) (l.mach_at / 8) (l.mach_len / 8)
 
 unfoldable pub shell_text : Options → List Taken → Positions → List ℕ
 shell_text options inputs l =

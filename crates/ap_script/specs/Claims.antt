@@ -1,5 +1,5 @@
 -- What the block of a linked file is claimed for, and by whom.
-use Rattle.std.specs.Prelude.{ℕ, List, [], ◌∷◌, ◌++◌, Option, Some, None}
+use Rattle.std.specs.Prelude.{ℕ, List, [], ◌∷◌, ◌++◌, map, Option, Some, None}
 use Rattle.ap_fields.specs.declared.sizes.TheConstants.{BLOCK}
 use Rattle.ap_claims.specs.declared.owner.Owner.{Owner}
 use Rattle.ap_claims.specs.declared.owner.Owner.TheVariants.{Shell, Ape, Elf}
@@ -9,8 +9,7 @@ use Rattle.ap_octal.specs.Statement.{statement_of}
 use Rattle.ap_elf.specs.declared.machine.Machine.TheVariants.{X64, A64}
 use Rattle.ap_check.specs.declared.options.Options.{Options}
 use Rattle.ap_check.specs.Inputs.{Taken}
-use Rattle.ap_layout.specs.declared.layout.Area.{Area}
-use Rattle.ap_layout.specs.Positions.{Positions, Fits}
+use Rattle.ap_layout.specs.Positions.{Positions, PlacedInput, placed_inputs, Fits}
 use Rattle.ap_script.specs.Tables.{table_text}
 use Rattle.ap_script.specs.Script.{header_for}
 use Rattle.ap_script.specs.Delimiter.{delimiter_number}
@@ -22,11 +21,8 @@ abbrev pub claim : Owner → ℕ → List ℕ → Claim
 claim owner at bytes = record { owner = owner; at = at; bytes = bytes }
 
 -- each input's program header table
-abbrev pub table_claims : List Taken → List (List Area) → List ℕ → List Claim
-table_claims [] areas tables = []
-table_claims (e ∷ inputs) [] tables = []
-table_claims (e ∷ inputs) (areas ∷ more) [] = []
-table_claims (e ∷ inputs) (areas ∷ more) (t ∷ tables) = claim Elf t (table_text e areas) ∷ table_claims inputs more tables
+abbrev pub table_claims : List PlacedInput → List Claim
+table_claims ps = map (λ p. claim Elf p.table (table_text p.input p.areas)) ps
 
 -- the statement of a header, where there is one
 abbrev pub statement_claims : Option (List ℕ) → ℕ → List Claim
@@ -37,8 +33,8 @@ statement_claims (Some header) place = claim Ape place (statement_of header) ∷
 abbrev pub ape_claims : Options → List Taken → Positions → List Claim
 ape_claims options inputs l =
     claim Ape 0 magic
-    ∷ (statement_claims (header_for X64 inputs l.tables) (statement_place options inputs l X64)
-    ++ statement_claims (header_for A64 inputs l.tables) (statement_place options inputs l A64))
+    ∷ (statement_claims (header_for X64 (placed_inputs inputs l)) (statement_place options inputs l X64)
+    ++ statement_claims (header_for A64 (placed_inputs inputs l)) (statement_place options inputs l A64))
 
 -- the script, and what makes a shell skip the body
 abbrev pub shell_claims : Options → List Taken → Positions → List Claim
@@ -52,7 +48,7 @@ abbrev pub script_claims : Options → List Taken → Positions → List Claim
 script_claims options inputs l = ape_claims options inputs l ++ shell_claims options inputs l
 
 abbrev pub block_claims : Options → List Taken → Positions → List Claim
-block_claims options inputs l = table_claims inputs l.areas l.tables ++ script_claims options inputs l
+block_claims options inputs l = table_claims (placed_inputs inputs l) ++ script_claims options inputs l
 
 -- the block is the file of its claims
 abbrev pub BlockIsClaimed : Type 0

@@ -9,7 +9,7 @@ use Rattle.ap_octal.specs.Statement.{statement_of}
 use Rattle.ap_check.specs.declared.options.Systems.{Systems}
 use Rattle.ap_elf.specs.declared.machine.Machine.{Machine}
 use Rattle.ap_elf.specs.declared.machine.Machine.TheVariants.{X64, A64}
-use Rattle.ap_check.specs.Inputs.{Taken}
+use Rattle.ap_layout.specs.Positions.{PlacedInput}
 use Rattle.ap_script.specs.Tables.{embedded_bytes}
 
 -- the script up to the test of the system
@@ -98,7 +98,6 @@ is_machine X64 X64 = true
 is_machine A64 A64 = true
 is_machine m n = false
 
-abbrev pub header_for : Machine → List Taken → List ℕ → Option (List ℕ)
-header_for m [] tables = None
-header_for m (e ∷ inputs) [] = None
-header_for m (e ∷ inputs) (t ∷ tables) = if is_machine m e.machine then Some (embedded_bytes e t) else header_for m inputs tables
+abbrev pub header_for : Machine → List PlacedInput → Option (List ℕ)
+header_for m [] = None
+header_for m (p ∷ ps) = if is_machine m p.input.machine then Some (embedded_bytes p.input p.table) else header_for m ps

@@ -5,8 +5,7 @@ use Rattle.ap_elf.specs.declared.machine.Machine.{Machine}
 use Rattle.ap_elf.specs.declared.machine.Machine.TheVariants.{X64, A64}
 use Rattle.ap_check.specs.declared.options.Options.{Options}
 use Rattle.ap_check.specs.Inputs.{Taken}
-use Rattle.ap_layout.specs.declared.layout.Area.{Area}
-use Rattle.ap_layout.specs.Positions.{Positions}
+use Rattle.ap_layout.specs.Positions.{Positions, PlacedInput, placed_inputs}
 use Rattle.ap_script.specs.Tables.{table_text}
 use Rattle.ap_script.specs.Delimiter.{delimiter, delimiter_number, without_nul}
 use Rattle.ap_script.specs.Script.{script_start, system_lines, machine_start, machine_lines, header_for}
@@ -16,18 +15,15 @@ abbrev pub MachinesDiffer : List Taken → Type 0
 MachinesDiffer [] = Unit {0}
 MachinesDiffer (e ∷ inputs) = All (λ f. e.machine ≢ f.machine) inputs × MachinesDiffer inputs
 
--- an input is one of some, and its program header table has this place
-abbrev pub HasTable : List Taken → List ℕ → Taken → ℕ → Type 0
-HasTable [] tables f u = ⊥
-HasTable (e ∷ inputs) [] f u = ⊥
-HasTable (e ∷ inputs) (t ∷ tables) f u = ((e ≡ f) × (t ≡ u)) ⊎ HasTable inputs tables f u
+-- an input is one of some
+abbrev pub IsOneOf : PlacedInput → List PlacedInput → Type 0
+IsOneOf q [] = ⊥
+IsOneOf q (p ∷ ps) = (p ≡ q) ⊎ IsOneOf q ps
 
 -- a file has the program header table of each input at its place
-abbrev pub HoldsTables : List ℕ → List Taken → List (List Area) → List ℕ → Type 0
-HoldsTables file [] areas tables = Unit {0}
-HoldsTables file (e ∷ inputs) [] tables = ⊥
-HoldsTables file (e ∷ inputs) (areas ∷ more) [] = ⊥
-HoldsTables file (e ∷ inputs) (areas ∷ more) (t ∷ tables) = Holds file t (table_text e areas) × HoldsTables file inputs more tables
+abbrev pub HoldsTables : List ℕ → List PlacedInput → Type 0
+HoldsTables file [] = Unit {0}
+HoldsTables file (p ∷ ps) = Holds file p.table (table_text p.input p.areas) × HoldsTables file ps
 
 -- each eight bytes of a text that follow each other hold a zero byte
 abbrev pub HasZeros : List ℕ → Type 0
@@ -46,12 +42,12 @@ pub record HasFreeDelimiter (body : List ℕ) : Type 0 where
 -- where the lines for machines begin: behind the body, the delimiter's line of 17 bytes and the script's first lines
 abbrev pub machines_start : Options → List Taken → Positions → ℕ
 machines_start options inputs l =
-    l.body_end + (17 + (length script_start + length (system_lines options.systems (header_for X64 inputs l.tables) (l.mach_at / 8) (l.mach_len / 8))))
+    l.body_end + (17 + (length script_start + length (system_lines options.systems (header_for X64 (placed_inputs inputs l)) (l.mach_at / 8) (l.mach_len / 8))))
 
 -- where the statement for a machine stands
 abbrev pub statement_place : Options → List Taken → Positions → Machine → ℕ
 statement_place options inputs l X64 = machines_start options inputs l + length (machine_start X64)
-statement_place options inputs l A64 = machines_start options inputs l + (length (machine_lines X64 (header_for X64 inputs l.tables)) + length (machine_start A64))
+statement_place options inputs l A64 = machines_start options inputs l + (length (machine_lines X64 (header_for X64 (placed_inputs inputs l))) + length (machine_start A64))
 
 -- a place, where there is a header
 abbrev pub place_if : Option (List ℕ) → ℕ → List ℕ
@@ -61,5 +57,5 @@ place_if (Some header) place = place ∷ []
 -- where the script has its statements, that for x86-64 first
 abbrev pub statement_places : Options → List Taken → Positions → List ℕ
 statement_places options inputs l =
-    place_if (header_for X64 inputs l.tables) (statement_place options inputs l X64)
-    ++ place_if (header_for A64 inputs l.tables) (statement_place options inputs l A64)
+    place_if (header_for X64 (placed_inputs inputs l)) (statement_place options inputs l X64)
+    ++ place_if (header_for A64 (placed_inputs inputs l)) (statement_place options inputs l A64)

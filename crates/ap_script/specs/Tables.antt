@@ -9,7 +9,7 @@ use Rattle.ap_check.specs.declared.load.Load.{Load}
 use Rattle.ap_elf.specs.Machines.{granule_of, number_of}
 use Rattle.ap_check.specs.Inputs.{Taken}
 use Rattle.ap_layout.specs.declared.layout.Area.{Area}
-use Rattle.ap_layout.specs.Positions.{entry_count}
+use Rattle.ap_layout.specs.Positions.{PlacedInput, entry_count}
 
 -- a load: its permissions, addresses and sizes are the input's, and its bytes stand in the area as far from a granule's start
 -- as they do in memory; a load without bytes in the file has the empty area
@@ -83,8 +83,7 @@ abbrev pub table_text : Taken → List Area → List ℕ
 table_text e areas = table_bytes (table_of e areas)
 
 -- the embedded header of an input, counted from 0
-abbrev pub embedded_at : List Taken → List ℕ → ℕ → List ℕ
-embedded_at [] tables i = []
-embedded_at (e ∷ inputs) [] i = []
-embedded_at (e ∷ inputs) (t ∷ tables) zero = embedded_bytes e t
-embedded_at (e ∷ inputs) (t ∷ tables) (suc i) = embedded_at inputs tables i
+abbrev pub embedded_at : List PlacedInput → ℕ → List ℕ
+embedded_at [] i = []
+embedded_at (p ∷ ps) zero = embedded_bytes p.input p.table
+embedded_at (p ∷ ps) (suc i) = embedded_at ps i

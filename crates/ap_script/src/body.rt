@@ -8,6 +8,7 @@ ghost use Rattle.ap_script.specs.Blocks.{body_of};
 ghost use Rattle.ap_script.specs.Jobs.{job_inputs};
 ghost use Rattle.ap_script.specs.Tables.{table_text};
 
+use crate::placed::{input_count, placed_input};
 use crate::table::table;
 use crate::text::{Text, push_text};
 use ap_check::{Input, Job};
@@ -16,7 +17,6 @@ use ap_layout::{Area, Layout};
 use arrayvec::ArrayVec;
 
 /// The body: zeros up to byte 96 of the linked file, and a program header table for each input.
-#[tactic(auto, using(std::proofs::Common::append_assoc), unfolding(crate::specs::Blocks::body_of))]
 pub(crate) fn body(job: &Job<'_>, lay: &Layout) -> Text
     requires { Fits job.now.options (job_inputs job.now) lay.now }
     ensures items { result.items ≡ body_of job.now.options (job_inputs job.now) lay.now }
@@ -24,9 +24,9 @@ pub(crate) fn body(job: &Job<'_>, lay: &Layout) -> Text
 {
     let mut body = ArrayVec::new();
     push_zeros(&mut body);
-    push_table(&mut body, job.first, &lay.areas[0]);
-    if let Some(second) = job.second {
-        push_table(&mut body, second, &lay.areas[1]);
+    for i in 0..input_count(job) {
+        let p = placed_input(job, lay, i);
+        push_table(&mut body, p.input, p.areas);
     }
     body
 }

@@ -2,7 +2,7 @@
 ghost use Rattle.std.specs.Prelude.{◌≡◌, ◌+◌, ◌-◌, ◌≤◌, ◌++◌, length};
 ghost use Rattle.ap_fields.specs.declared.sizes.TheConstants.{WINDOW};
 ghost use Rattle.ap_elf.specs.declared.machine.Machine.TheVariants.{X64, A64};
-ghost use Rattle.ap_layout.specs.Positions.{Fits};
+ghost use Rattle.ap_layout.specs.Positions.{Fits, placed_inputs};
 ghost use Rattle.ap_script.specs.Blocks.{closing, spaces, body_of, ending_of};
 ghost use Rattle.ap_script.specs.Delimiter.{delimiter_number};
 ghost use Rattle.ap_script.specs.Jobs.{job_inputs};
@@ -42,8 +42,8 @@ impl Ending {
         requires number { number ≡ delimiter_number (body_of job.now.options (job_inputs job.now) lay.now) }
         ensures text { result.text.items ≡ ending_of job.now.options (job_inputs job.now) lay.now }
         ensures len { lay.now.body_end + length result.text.items ≡ WINDOW }
-        ensures x64 { result.x64.header ≡ header_for X64 (job_inputs job.now) lay.now.tables }
-        ensures a64 { result.a64.header ≡ header_for A64 (job_inputs job.now) lay.now.tables }
+        ensures x64 { result.x64.header ≡ header_for X64 (placed_inputs (job_inputs job.now) lay.now) }
+        ensures a64 { result.a64.header ≡ header_for A64 (placed_inputs (job_inputs job.now) lay.now) }
         ensures x64_place { result.x64.place ≡ statement_place job.now.options (job_inputs job.now) lay.now X64 }
         ensures a64_place { result.a64.place ≡ statement_place job.now.options (job_inputs job.now) lay.now A64 }
         ensures x64_room { result.x64.place + 265 ≤ WINDOW }

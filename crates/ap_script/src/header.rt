@@ -1,11 +1,12 @@
 // The embedded header of an input.
 ghost use Rattle.std.specs.Prelude.{◌≡◌, ◌<◌, length};
-ghost use Rattle.ap_layout.specs.Positions.{Fits};
+ghost use Rattle.ap_layout.specs.Positions.{Fits, placed_inputs};
 ghost use Rattle.ap_script.specs.Jobs.{job_inputs};
 ghost use Rattle.ap_script.specs.Script as script;
 ghost use Rattle.ap_script.specs.Tables as spec;
 ghost use Rattle.ap_script.specs.Tables.{embedded_bytes, embedded_at};
 
+use crate::placed::{input_count, placed_input};
 use ap_check::{Input, Job, Machine};
 use ap_elf::{Header, header_bytes};
 use ap_layout::{Layout, entry_count};
@@ -15,26 +16,24 @@ use ap_layout::{Layout, entry_count};
 pub fn elf_header(job: &Job<'_>, lay: &Layout, i: usize) -> [u8; 64]
     requires input { i < length (job_inputs job.now) }
     requires fits { Fits job.now.options (job_inputs job.now) lay.now }
-    ensures { result ≡ embedded_at (job_inputs job.now) lay.now.tables i }
+    ensures { result ≡ embedded_at (placed_inputs (job_inputs job.now) lay.now) i }
 {
-    match job.second {
-        Some(second) if i == 1 => input_header(second, lay.tables[1]),
-        _ => input_header(job.first, lay.tables[0]),
-    }
+    let p = placed_input(job, lay, i);
+    input_header(p.input, p.table)
 }
 
 /// The embedded header of the first input for a machine.
 pub(crate) fn machine_header(job: &Job<'_>, lay: &Layout, machine: Machine) -> Option<[u8; 64]>
     requires { Fits job.now.options (job_inputs job.now) lay.now }
-    ensures { result ≡ script.header_for machine (job_inputs job.now) lay.now.tables }
+    ensures { result ≡ script.header_for machine (placed_inputs (job_inputs job.now) lay.now) }
 {
-    if is_for(job.first, machine) {
-        return Some(elf_header(job, lay, 0));
+    for i in 0..input_count(job) {
+        let p = placed_input(job, lay, i);
+        if is_for(p.input, machine) {
+            return Some(input_header(p.input, p.table));
+        }
     }
-    match job.second {
-        Some(second) if is_for(second, machine) => Some(elf_header(job, lay, 1)),
-        _ => None,
-    }
+    None
 }
 
 fn is_for(input: &Input, machine: Machine) -> bool

@@ -11,12 +11,12 @@ ghost use Rattle.ap_elf.specs.Machines.{granule_of, number_of};
 ghost use Rattle.ap_check.specs.Inputs.{Taken, Meets};
 ghost use Rattle.ap_layout.specs.declared.layout.Area.{Area};
 ghost use Rattle.ap_layout.specs.Areas.{ServeAll};
-ghost use Rattle.ap_layout.specs.Positions.{Positions, Fits, table_length};
+ghost use Rattle.ap_layout.specs.Positions.{Positions, PlacedInput, placed_inputs, Fits, table_length};
 ghost use Rattle.ap_script.specs.Tables.{embedded_bytes, table_text};
 ghost use Rattle.ap_script.specs.Delimiter.{delimiter_number};
 ghost use Rattle.ap_script.specs.Blocks.{body_of, shell_text, block_of};
 ghost use Rattle.ap_script.specs.Claims.{BlockIsClaimed};
-ghost use Rattle.ap_script.specs.Stands.{MachinesDiffer, HasTable, HoldsTables, HasZeros, HasFreeDelimiter, statement_place, statement_places};
+ghost use Rattle.ap_script.specs.Stands.{MachinesDiffer, IsOneOf, HoldsTables, HasZeros, HasFreeDelimiter, statement_place, statement_places};
 
 /// An embedded header has 64 bytes, and a program header table 56 for each of its entries.
 pub fn headers_have_lengths()
@@ -42,7 +42,7 @@ pub fn blocks_hold_tables()
     ensures begins { (options : Options) (inputs : List Taken) (l : Positions) (rest : List ℕ) → Holds (block_of options inputs l ++ rest) 0 (codes "jartsr='") }
     ensures magic { (options : Options) (inputs : List Taken) (l : Positions) (rest : List ℕ) → has_magic (block_of options inputs l ++ rest) ≡ true }
     ensures body { (options : Options) (inputs : List Taken) (l : Positions) (rest : List ℕ) → Holds (block_of options inputs l ++ rest) 86 (body_of options inputs l) }
-    ensures tables { (options : Options) (inputs : List Taken) (l : Positions) (rest : List ℕ) → Fits options inputs l → HoldsTables (block_of options inputs l ++ rest) inputs l.areas l.tables }
+    ensures tables { (options : Options) (inputs : List Taken) (l : Positions) (rest : List ℕ) → Fits options inputs l → HoldsTables (block_of options inputs l ++ rest) (placed_inputs inputs l) }
 {}
 
 /// Each eight bytes of the body that follow each other hold a zero byte, so no statement stands in it.
@@ -59,21 +59,21 @@ pub fn statements_stand()
     ensures count { (options : Options) (inputs : List Taken) (l : Positions) → MachinesDiffer inputs → Fits options inputs l
         → length (statement_places options inputs l) ≡ length inputs }
     ensures order { (options : Options) (inputs : List Taken) (l : Positions) → statement_place options inputs l X64 < statement_place options inputs l A64 }
-    ensures text { (options : Options) (inputs : List Taken) (l : Positions) (rest : List ℕ) (e : Taken) (t : ℕ) → MachinesDiffer inputs → Fits options inputs l
-        → HasTable inputs l.tables e t → Holds (block_of options inputs l ++ rest) (statement_place options inputs l e.machine) (statement_of (embedded_bytes e t)) }
-    ensures within { (options : Options) (inputs : List Taken) (l : Positions) (e : Taken) (t : ℕ) → MachinesDiffer inputs → Fits options inputs l
-        → HasTable inputs l.tables e t → statement_place options inputs l e.machine + length (statement_of (embedded_bytes e t)) ≤ WINDOW }
-    ensures embeds { (options : Options) (inputs : List Taken) (l : Positions) (rest : List ℕ) (e : Taken) (t : ℕ) → MachinesDiffer inputs → Fits options inputs l
-        → HasTable inputs l.tables e t
-        → let place = statement_place options inputs l e.machine in
-        Embeds (block_of options inputs l ++ rest) place (place + 8 + length (octals_of (embedded_bytes e t))) (embedded_bytes e t) }
+    ensures text { (options : Options) (inputs : List Taken) (l : Positions) (rest : List ℕ) (p : PlacedInput) → MachinesDiffer inputs → Fits options inputs l
+        → IsOneOf p (placed_inputs inputs l) → Holds (block_of options inputs l ++ rest) (statement_place options inputs l p.input.machine) (statement_of (embedded_bytes p.input p.table)) }
+    ensures within { (options : Options) (inputs : List Taken) (l : Positions) (p : PlacedInput) → MachinesDiffer inputs → Fits options inputs l
+        → IsOneOf p (placed_inputs inputs l) → statement_place options inputs l p.input.machine + length (statement_of (embedded_bytes p.input p.table)) ≤ WINDOW }
+    ensures embeds { (options : Options) (inputs : List Taken) (l : Positions) (rest : List ℕ) (p : PlacedInput) → MachinesDiffer inputs → Fits options inputs l
+        → IsOneOf p (placed_inputs inputs l)
+        → let place = statement_place options inputs l p.input.machine in
+        Embeds (block_of options inputs l ++ rest) place (place + 8 + length (octals_of (embedded_bytes p.input p.table))) (embedded_bytes p.input p.table) }
 {}
 
 /// A loader for the machine of an input takes the input's statement (APE specification), whatever stands behind the block. A
 /// loader for a machine that no input is for takes none.
 pub fn statements_are_taken()
-    ensures taken { (options : Options) (inputs : List Taken) (l : Positions) (rest : List ℕ) (e : Taken) (t : ℕ) → All Meets inputs → MachinesDiffer inputs → Fits options inputs l
-        → HasTable inputs l.tables e t → taken (number_of e.machine) (block_of options inputs l ++ rest) ≡ Some (statement_place options inputs l e.machine, embedded_bytes e t) }
+    ensures taken { (options : Options) (inputs : List Taken) (l : Positions) (rest : List ℕ) (p : PlacedInput) → All Meets inputs → MachinesDiffer inputs → Fits options inputs l
+        → IsOneOf p (placed_inputs inputs l) → taken (number_of p.input.machine) (block_of options inputs l ++ rest) ≡ Some (statement_place options inputs l p.input.machine, embedded_bytes p.input p.table) }
     ensures other { (options : Options) (inputs : List Taken) (l : Positions) (rest : List ℕ) (number : ℕ) → All Meets inputs → Fits options inputs l
         → All (λ e. number_of e.machine ≢ number) inputs → taken number (block_of options inputs l ++ rest) ≡ None }
 {}

@@ -8,6 +8,8 @@ mod ending;
 mod header;
 mod law;
 mod place;
+mod placed;
+mod placement;
 mod script;
 mod shell;
 mod table;

@@ -3,12 +3,13 @@ ghost use Rattle.std.specs.Prelude.{◌≡◌, ◌+◌, ◌≤◌, ◌<◌, ◌^
 ghost use Rattle.ap_fields.specs.declared.sizes.TheConstants.{WINDOW};
 ghost use Rattle.ap_claims.specs.declared.owner.Owner.TheVariants.{Elf};
 ghost use Rattle.ap_claims.specs.Lists.{Makes};
-ghost use Rattle.ap_layout.specs.Positions.{Fits};
+ghost use Rattle.ap_layout.specs.Positions.{Fits, placed_inputs};
 ghost use Rattle.ap_script.specs.Claims.{claim, table_claims};
 ghost use Rattle.ap_script.specs.Jobs.{job_inputs};
 ghost use Rattle.ap_script.specs.Tables.{table_text};
 
 use crate::body::push_table;
+use crate::placed::{input_count, placed_input};
 use ap_check::{Input, Job};
 use ap_claims::{Block, Clash, ElfView};
 use ap_layout::{Area, Layout};
@@ -20,13 +21,13 @@ use arrayvec::ArrayVec;
 /// of its own have been claimed.
 pub fn write_tables(block: &mut Block, job: &Job<'_>, lay: &Layout) -> Result<(), Clash>
     requires { Fits job.now.options (job_inputs job.now) lay.now }
-    ensures { Makes block.old block.new (table_claims (job_inputs job.now) lay.now.areas lay.now.tables) result }
+    ensures { Makes block.old block.new (table_claims (placed_inputs (job_inputs job.now) lay.now)) result }
 {
-    write_table(block, job.first, &lay.areas[0], lay.tables[0])?;
-    match job.second {
-        None => Ok(()),
-        Some(second) => write_table(block, second, &lay.areas[1], lay.tables[1]),
+    for i in 0..input_count(job) {
+        let p = placed_input(job, lay, i);
+        write_table(block, p.input, p.areas, p.table)?;
     }
+    Ok(())
 }
 
 /// Claims the table of an input whose loads have these areas.

@@ -3,8 +3,8 @@ use Rattle.ap_script.proofs.TakenStatements.{taken-block, taken-other, header_fo
 use Rattle.ap_script.proofs.law.statements_are_taken.Goals as goal
 
 pub returns-clause-taken : goal.returns-clause-taken
-returns-clause-taken c = λ options inputs l rest e t meets differ fits has.
-    taken-block options inputs l rest e.machine (embedded_bytes e t) meets fits (header_for-input inputs l.tables e t differ has)
+returns-clause-taken c = λ options inputs l rest p meets differ fits has.
+    taken-block options inputs l rest p.input.machine (embedded_bytes p.input p.table) meets fits (header_for-input options inputs l p differ fits has)
 
 pub returns-clause-other : goal.returns-clause-other
 returns-clause-other c = taken-other

@@ -17,14 +17,14 @@ pub returns-clause-order : goal.returns-clause-order
 returns-clause-order c = places-order
 
 pub returns-clause-text : goal.returns-clause-text
-returns-clause-text c = λ options inputs l rest e t differ fits has.
-    parts-holds (block_of options inputs l ++ rest) (statement_place options inputs l e.machine) (embedded_bytes e t)
-    (parts-block options inputs l rest e.machine (embedded_bytes e t) fits (header_for-input inputs l.tables e t differ has))
+returns-clause-text c = λ options inputs l rest p differ fits has.
+    parts-holds (block_of options inputs l ++ rest) (statement_place options inputs l p.input.machine) (embedded_bytes p.input p.table)
+    (parts-block options inputs l rest p.input.machine (embedded_bytes p.input p.table) fits (header_for-input options inputs l p differ fits has))
 
 pub returns-clause-within : goal.returns-clause-within
-returns-clause-within c = λ options inputs l e t differ fits has.
-    place-within options inputs l e.machine (embedded_bytes e t) fits (header_for-input inputs l.tables e t differ has)
+returns-clause-within c = λ options inputs l p differ fits has.
+    place-within options inputs l p.input.machine (embedded_bytes p.input p.table) fits (header_for-input options inputs l p differ fits has)
 
 pub returns-clause-embeds : goal.returns-clause-embeds
-returns-clause-embeds c = λ options inputs l rest e t differ fits has.
-    embeds-block options inputs l rest e.machine (embedded_bytes e t) fits (header_for-input inputs l.tables e t differ has)
+returns-clause-embeds c = λ options inputs l rest p differ fits has.
+    embeds-block options inputs l rest p.input.machine (embedded_bytes p.input p.table) fits (header_for-input options inputs l p differ fits has)

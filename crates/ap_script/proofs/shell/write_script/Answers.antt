@@ -10,6 +10,7 @@ use Rattle.ap_script.specs.Delimiter.{delimiter_number}
 use Rattle.ap_script.specs.Script.{header_for}
 use Rattle.ap_script.specs.Stands.{statement_place}
 use Rattle.ap_script.specs.Claims.{claim, statement_claims, ape_claims, shell_claims}
+use Rattle.ap_layout.specs.Positions.{placed_inputs}
 use Rattle.ap_script.specs.Jobs.{job_inputs}
 use Rattle.ap_script.proofs.shell.write_script.Goals as goal
 
@@ -30,7 +31,7 @@ returns-in_err-write_for_loaders c =
     stopped-writer (ape_claims options inputs l) (shell_claims options inputs l) c.args.block.now c.write_for_loaders.new.block c.write_for_loaders.result c.from_residual.result
     c.in_err-write_for_loaders.field-0.0
     (as-apes c.args.block.now c.write_for_loaders.new.block c.write_for_loaders.result c.new-ending.result.x64.header c.new-ending.result.a64.header
-    (header_for X64 inputs l.tables) (header_for A64 inputs l.tables) c.new-ending.result.x64.place c.new-ending.result.a64.place
+    (header_for X64 (placed_inputs inputs l)) (header_for A64 (placed_inputs inputs l)) c.new-ending.result.x64.place c.new-ending.result.a64.place
     (statement_place options inputs l X64) (statement_place options inputs l A64) e.x64 e.a64 e.x64_place e.a64_place c.write_for_loaders.ensures)
     c.in_err-write_for_loaders.was (search rules)
 
@@ -44,7 +45,7 @@ returns c =
     next-writer (ape_claims options inputs l) (shell_claims options inputs l) c.args.block.now c.write_for_loaders.new.block c.write_for_shells.new.block c.write_for_loaders.result c.write_for_shells.result
     c.in_ok-write_for_loaders.field-0
     (as-apes c.args.block.now c.write_for_loaders.new.block c.write_for_loaders.result c.new-ending.result.x64.header c.new-ending.result.a64.header
-    (header_for X64 inputs l.tables) (header_for A64 inputs l.tables) c.new-ending.result.x64.place c.new-ending.result.a64.place
+    (header_for X64 (placed_inputs inputs l)) (header_for A64 (placed_inputs inputs l)) c.new-ending.result.x64.place c.new-ending.result.a64.place
     (statement_place options inputs l X64) (statement_place options inputs l A64) e.x64 e.a64 e.x64_place e.a64_place c.write_for_loaders.ensures)
     c.in_ok-write_for_loaders.was
     (as-shells c.write_for_loaders.new.block c.write_for_shells.new.block c.write_for_shells.result c.choose_delimiter-number.result (delimiter_number (body_of options inputs l))

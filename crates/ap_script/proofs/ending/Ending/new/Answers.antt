@@ -1,5 +1,6 @@
 use Rattle.std.proofs.Common.{◌/◌, length, ap, sym, arith}
 use Rattle.ap_elf.specs.declared.machine.Machine.TheVariants.{X64, A64}
+use Rattle.ap_layout.specs.Positions.{placed_inputs}
 use Rattle.ap_script.specs.Jobs.{job_inputs}
 use Rattle.ap_script.specs.Script.{machine_lines, header_for}
 use Rattle.ap_script.proofs.Endings.{place-room, script-behind, ending-short, ending-made, ending-long, lines-are}
@@ -15,7 +16,7 @@ pub overflow_add-result : goal.overflow_add-result
 overflow_add-result c =
     let room = place-room c.args.job.now.options (job_inputs c.args.job.now) c.args.lay.now X64 c.requires.fits in
     let at = ap (λ l. l.body_end) (sym c.lay.view_is) in
-    let lines = lines-are c.args.job.now.options.systems c.machine_header-x64.result (header_for X64 (job_inputs c.args.job.now) c.args.lay.now.tables) (c.lay.inside.mach_at / 8) (c.args.lay.now.mach_at / 8)
+    let lines = lines-are c.args.job.now.options.systems c.machine_header-x64.result (header_for X64 (placed_inputs (job_inputs c.args.job.now) c.args.lay.now)) (c.lay.inside.mach_at / 8) (c.args.lay.now.mach_at / 8)
     (c.lay.inside.mach_len / 8) (c.args.lay.now.mach_len / 8) c.machine_header-x64.ensures (ap (λ l. l.mach_at / 8) c.lay.view_is) (ap (λ l. l.mach_len / 8) c.lay.view_is) in
     let place = c.push_script-places.ensures.x64 in
     let line = c.push_closing.ensures.len in
@@ -26,7 +27,7 @@ pub overflow_add-result-2 : goal.overflow_add-result-2
 overflow_add-result-2 c =
     let room = place-room c.args.job.now.options (job_inputs c.args.job.now) c.args.lay.now A64 c.requires.fits in
     let at = ap (λ l. l.body_end) (sym c.lay.view_is) in
-    let lines = lines-are c.args.job.now.options.systems c.machine_header-x64.result (header_for X64 (job_inputs c.args.job.now) c.args.lay.now.tables) (c.lay.inside.mach_at / 8) (c.args.lay.now.mach_at / 8)
+    let lines = lines-are c.args.job.now.options.systems c.machine_header-x64.result (header_for X64 (placed_inputs (job_inputs c.args.job.now) c.args.lay.now)) (c.lay.inside.mach_at / 8) (c.args.lay.now.mach_at / 8)
     (c.lay.inside.mach_len / 8) (c.args.lay.now.mach_len / 8) c.machine_header-x64.ensures (ap (λ l. l.mach_at / 8) c.lay.view_is) (ap (λ l. l.mach_len / 8) c.lay.view_is) in
     let place = c.push_script-places.ensures.a64 in
     let line = c.push_closing.ensures.len in
@@ -52,7 +53,7 @@ pub returns-clause-x64_room : goal.returns-clause-x64_room
 returns-clause-x64_room c =
     let room = place-room c.args.job.now.options (job_inputs c.args.job.now) c.args.lay.now X64 c.requires.fits in
     let at = ap (λ l. l.body_end) (sym c.lay.view_is) in
-    let lines = lines-are c.args.job.now.options.systems c.machine_header-x64.result (header_for X64 (job_inputs c.args.job.now) c.args.lay.now.tables) (c.lay.inside.mach_at / 8) (c.args.lay.now.mach_at / 8)
+    let lines = lines-are c.args.job.now.options.systems c.machine_header-x64.result (header_for X64 (placed_inputs (job_inputs c.args.job.now) c.args.lay.now)) (c.lay.inside.mach_at / 8) (c.args.lay.now.mach_at / 8)
     (c.lay.inside.mach_len / 8) (c.args.lay.now.mach_len / 8) c.machine_header-x64.ensures (ap (λ l. l.mach_at / 8) c.lay.view_is) (ap (λ l. l.mach_len / 8) c.lay.view_is) in
     let place = c.push_script-places.ensures.x64 in
     let line = c.push_closing.ensures.len in
@@ -63,7 +64,7 @@ pub returns-clause-a64_room : goal.returns-clause-a64_room
 returns-clause-a64_room c =
     let room = place-room c.args.job.now.options (job_inputs c.args.job.now) c.args.lay.now A64 c.requires.fits in
     let at = ap (λ l. l.body_end) (sym c.lay.view_is) in
-    let lines = lines-are c.args.job.now.options.systems c.machine_header-x64.result (header_for X64 (job_inputs c.args.job.now) c.args.lay.now.tables) (c.lay.inside.mach_at / 8) (c.args.lay.now.mach_at / 8)
+    let lines = lines-are c.args.job.now.options.systems c.machine_header-x64.result (header_for X64 (placed_inputs (job_inputs c.args.job.now) c.args.lay.now)) (c.lay.inside.mach_at / 8) (c.args.lay.now.mach_at / 8)
     (c.lay.inside.mach_len / 8) (c.args.lay.now.mach_len / 8) c.machine_header-x64.ensures (ap (λ l. l.mach_at / 8) c.lay.view_is) (ap (λ l. l.mach_len / 8) c.lay.view_is) in
     let place = c.push_script-places.ensures.a64 in
     let line = c.push_closing.ensures.len in
