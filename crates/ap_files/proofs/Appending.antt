@@ -4,7 +4,7 @@ use Rattle.std.proofs.lemmas.List.{take_all}
 use Rattle.std.specs.Prelude.{IsErr}
 use Rattle.std.specs.FinMap as map
 use Rattle.ap_files.specs.Files.{FileMap, FileState, Rose, KeepsFiles, KeepsCounts, WriteCause, IsPresent, IsUnfinished, HasRange, with_file, with_added, after_finish, told_bytes, Starts, Adds, Finishes}
-use Rattle.ap_files.specs.Appends.{Grows, Appends, Fails, IsBegun, Makes, faults_by, other_side, write_failure}
+use Rattle.ap_files.specs.Appends.{Grows, Appends, Fails, IsBegun, Makes, faults_by, other_side, failure_of, write_failure}
 use Rattle.ap_files.specs.declared.failure.Failed.{Failed}
 use Rattle.ap_files.specs.declared.failure.FileFault.{FileFault}
 use Rattle.ap_files.specs.declared.failure.FileFault.TheVariants.{Read, Write}
@@ -41,6 +41,9 @@ write-fails old new T e c = record { rose = c.failed; others = c.read_faults; ab
 pub write-failed : (P : Option FileFault → Type 0) (r : Result (Unit {0}) Failed) → IsErr r → P (Some Write) → P (write_failure r)
 write-failed P (Ok x) h p = absurd (cc)
 write-failed P (Err e) h p = p
+
+pub transfer-failed : (P : Option FileFault → Type 0) (r : Result (Unit {0}) FileFault) (f : FileFault) → r ≡ Err f → P (Some f) → P (failure_of r)
+transfer-failed P r f is p = subst (λ x. P (failure_of x)) (sym is) p
 
 -- ---- texts
 
