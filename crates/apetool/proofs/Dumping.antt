@@ -1,11 +1,14 @@
 -- How a file is dumped, step by step.
-use Rattle.std.proofs.Common.{◌≡◌, ℕ, ◌^◌, ◌<◌, Bool, true, false, cond, List, length, Result, Ok, Err, refl, sym, ap, ◌∙◌, subst, arith}
+use Rattle.std.proofs.Common.{◌≡◌, inl, ℕ, ◌^◌, ◌<◌, Bool, true, false, cond, List, length, Some, Result, Ok, Err, refl, sym, ap, ◌∙◌, subst, arith}
 use Rattle.std.specs.Prelude.{nat_lt}
 use Rattle.std.proofs.lemmas.Bool.Decides.{nat_tests}
 use Rattle.ap_fields.specs.Readings.{bytes_in}
 use Rattle.ap_files.specs.Files.{FileState}
 use Rattle.ap_files.specs.Sinks.{SinkState}
-use Rattle.ap_files.specs.Reads.{HasFile}
+use Rattle.ap_files.specs.Reads as reads
+use Rattle.ap_files.specs.Reads.{HasFile, ReadFails}
+use Rattle.ap_files.specs.Appends.{IsMade, Makes}
+use Rattle.ap_files.specs.declared.failure.FileFault.TheVariants.{Write}
 use Rattle.ap_files.proofs.ReadLemmas.{told_of}
 use Rattle.ap_image.specs.Plans.{Mapping}
 use Rattle.ap_image.specs.ImageFiles.{total_of, image_file}
@@ -20,7 +23,6 @@ use Rattle.apetool.specs.PlanTexts.{plan_text}
 use Rattle.apetool.specs.Formats.{plan_in}
 use Rattle.apetool.specs.FilePlans.{sized_plan_in, IsPlanned, Plans}
 use Rattle.apetool.specs.Shows.{Printed}
-use Rattle.apetool.specs.Stores.{Stored, StoreFails}
 use Rattle.apetool.specs.Dumps.{Dumped, dumped_by, dumped_in, dumped_as, IsDumped, DumpEnds, PartsAnswer, MakesParts}
 
 by-size : (large : Bool) (f : ReadingFault) (b : List ℕ) (plan : Result Mapping ReadingFault) → cond large (Err f) (dumped_by b plan) ≡ dumped_by b (cond large (Err f) plan)
@@ -70,10 +72,14 @@ parts-made old mid new format name bytes planned (Err ReadFault) h f m = absurd 
 parts-made old mid new format name bytes planned (Err WriteFault) h f m = absurd m
 parts-made old mid new format name bytes planned (Err OutFault) h f m = absurd m
 
+pub parts-unread : (old mid new : FileState) (format : Format) (name : List ℕ) (planned : Planned) → Plans old mid format name (Ok planned) → ReadFails mid new → PartsAnswer old new format name (Err ReadFault)
+parts-unread old mid new format name planned h f =
+    subst (λ s. reads.Unread s new name) h.0 (record { files = f.files; write_faults = f.write_faults; cause = inl f.rose })
+
 pub dump-printed : (old mid new : FileState) (before after : SinkState) (format : Format) (name image : List ℕ) (d : Dumped) (cause : Cause) → (mid ≡ old) × IsDumped old format name (Ok d)
-    → Stored mid new image d.image → Printed before after d.text cause → DumpEnds old new before after format name image cause
-dump-printed old mid new before after format name image d Done h s p = (d, subst (λ o. Stored o new image d.image) h.0 s, p, h.1)
-dump-printed old mid new before after format name image d OutFault h s p = (d, subst (λ o. Stored o new image d.image) h.0 s, p, h.1)
+    → IsMade mid new image d.image → Printed before after d.text cause → DumpEnds old new before after format name image cause
+dump-printed old mid new before after format name image d Done h s p = (d, subst (λ o. IsMade o new image d.image) h.0 s, p, h.1)
+dump-printed old mid new before after format name image d OutFault h s p = (d, subst (λ o. IsMade o new image d.image) h.0 s, p, h.1)
 dump-printed old mid new before after format name image d (Refused f) h s p = absurd p
 dump-printed old mid new before after format name image d (Unread f) h s p = absurd p
 dump-printed old mid new before after format name image d Usage h s p = absurd p
@@ -92,5 +98,5 @@ dump-bare old new sink format name image WriteFault h = absurd h
 dump-bare old new sink format name image OutFault h = absurd h
 
 pub dump-unwritten : (old mid new : FileState) (sink : SinkState) (format : Format) (name image : List ℕ) (d : Dumped) → (mid ≡ old) × IsDumped old format name (Ok d)
-    → StoreFails mid new image d.image → DumpEnds old new sink sink format name image WriteFault
-dump-unwritten old mid new sink format name image d h s = (d, subst (λ o. StoreFails o new image d.image) h.0 s, refl, h.1)
+    → Makes mid new image d.image (Some Write) → DumpEnds old new sink sink format name image WriteFault
+dump-unwritten old mid new sink format name image d h s = (d, subst (λ o. Makes o new image d.image (Some Write)) h.0 s, refl, h.1)

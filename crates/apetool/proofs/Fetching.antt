@@ -1,9 +1,7 @@
--- What follows from the answers of the reads of a whole file.
-use Rattle.std.proofs.Common.{◌≡◌, ℕ, ◌^◌, ◌<◌, ◌≤◌, List, ◌++◌, length, take, drop, Ok, Err, ap, ◌∙◌, inl, arith}
-use Rattle.std.proofs.lemmas.List.{take_all, take_at}
-use Rattle.ap_files.specs.Files.{FileState, Measures, ReadsAt}
-use Rattle.ap_files.specs.Reads.{HasFile, HasSize, Unread}
-use Rattle.ap_files.specs.declared.failure.Failed.{Failed}
+-- What follows from the answers of sizes.
+use Rattle.std.proofs.Common.{◌≡◌, ℕ, ◌^◌, ◌<◌, ◌≤◌, List, Ok}
+use Rattle.ap_files.specs.Files.{FileState, Measures}
+use Rattle.ap_files.specs.Reads.{HasSize}
 use Rattle.ap_files.proofs.ReadLemmas.{same_state, size_known}
 
 pub too-large : (old new : FileState) (name : List ℕ) (n : ℕ) → Measures old new name (Ok n) → 2 ^ 30 < n
@@ -13,20 +11,3 @@ too-large old new name n h large = (same_state old new h.files h.ok, large, size
 pub small-enough : (old new : FileState) (name : List ℕ) (n : ℕ) → Measures old new name (Ok n) → n ≤ 2 ^ 30
     → (new ≡ old) × (n ≤ 2 ^ 30) × HasSize old.kept name n
 small-enough old new name n h small = (same_state old new h.files h.ok, small, size_known old new name n h)
-
--- the whole of it was read
-pub whole-read : (old new : FileState) (name buf rest : List ℕ) (n count : ℕ) (before after : List ℕ) → HasSize old.kept name n → ReadsAt old new name 0 before after (Ok tt)
-    → length before ≡ count → count ≡ n → buf ≡ take count (after ++ rest) → length after ≡ count
-    → (new ≡ old) × HasFile old.kept name (λ b. buf ≡ b)
-whole-read old new name buf rest n count before after sized read long same is full = (
-  same_state old new read.files read.ok,
-  λ m k.
-      let t = sized m k in
-      let told = read.bytes m t.0 k t.1 in
-      let all : after ≡ t.0 = told ∙ ap (λ i. take i (drop 0 t.0)) long ∙ take_all count t.0 (let l = t.2 in omega arith) in
-      (t.0, t.1, is ∙ take_at after rest count full ∙ all),
-)
-
--- a read that fails
-pub whole-unread : (old new : FileState) (name before after : List ℕ) (e : Failed) → ReadsAt old new name 0 before after (Err e) → Unread old new name
-whole-unread old new name before after e read = record { files = read.files; write_faults = read.write_faults; cause = inl read.failed }

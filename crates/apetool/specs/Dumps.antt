@@ -1,9 +1,12 @@
 -- How a command that shows a file and dumps its image file ends.
-use Rattle.std.specs.Prelude.{◌≡◌, ℕ, ◌^◌, nat_lt, if◌then◌else◌, List, length, Vec, Result, Ok, Err}
+use Rattle.std.specs.Prelude.{◌≡◌, ℕ, ◌^◌, nat_lt, if◌then◌else◌, List, length, Vec, Result, Ok, Err, Some}
 use Rattle.std.specs.declared.alloc.Global.{Global}
 use Rattle.ap_fields.specs.Readings.{bytes_in}
 use Rattle.ap_files.specs.Files.{FileState}
 use Rattle.ap_files.specs.Sinks.{SinkState}
+use Rattle.ap_files.specs.Prints.{Written, Broken}
+use Rattle.ap_files.specs.Appends.{IsMade, Makes}
+use Rattle.ap_files.specs.declared.failure.FileFault.TheVariants as file
 use Rattle.ap_files.specs.Reads as reads
 use Rattle.ap_files.specs.Reads.{HasFile}
 use Rattle.ap_image.specs.Plans.{Mapping}
@@ -14,8 +17,6 @@ use Rattle.apetool.specs.declared.end.Cause.{Cause}
 use Rattle.apetool.specs.declared.end.Cause.TheVariants.{Done, Refused, Unread, Usage, ReadFault, WriteFault, OutFault, NoMemory}
 use Rattle.apetool.specs.declared.format.Format.{Format}
 use Rattle.apetool.specs.declared.dump.Parts.{Parts}
-use Rattle.apetool.specs.Prints.{Written, Broken}
-use Rattle.apetool.specs.Stores.{Stored, StoreFails}
 use Rattle.apetool.specs.PlanTexts.{plan_text}
 use Rattle.apetool.specs.Formats.{plan_in}
 
@@ -41,11 +42,11 @@ IsDumped old format name dumped = HasFile old.kept name (λ b. dumped_in format 
 -- How a command ends by its cause. Where it doesn't say otherwise, no file and no count changes, and nothing is printed.
 abbrev pub DumpEnds : FileState → FileState → SinkState → SinkState → Format → List ℕ → List ℕ → Cause → Type 0
 DumpEnds old new before after format name image Done =
-    (d : Dumped) × Stored old new image d.image × Written before after d.text × IsDumped old format name (Ok d)
+    (d : Dumped) × IsMade old new image d.image × Written before after d.text × IsDumped old format name (Ok d)
 DumpEnds old new before after format name image OutFault =
-    (d : Dumped) × Stored old new image d.image × Broken before after d.text × IsDumped old format name (Ok d)
+    (d : Dumped) × IsMade old new image d.image × Broken before after d.text × IsDumped old format name (Ok d)
 DumpEnds old new before after format name image WriteFault =
-    (d : Dumped) × StoreFails old new image d.image × (after ≡ before) × IsDumped old format name (Ok d)
+    (d : Dumped) × Makes old new image d.image (Some file.Write) × (after ≡ before) × IsDumped old format name (Ok d)
 DumpEnds old new before after format name image (Unread f) = (new ≡ old) × (after ≡ before) × IsDumped old format name (Err f)
 DumpEnds old new before after format name image ReadFault = reads.Unread old new name × (after ≡ before)
 DumpEnds old new before after format name image NoMemory = (new ≡ old) × (after ≡ before)

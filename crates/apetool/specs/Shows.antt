@@ -10,7 +10,7 @@ use Rattle.apetool.specs.declared.end.ReadingFault.{ReadingFault}
 use Rattle.apetool.specs.declared.end.Cause.{Cause}
 use Rattle.apetool.specs.declared.end.Cause.TheVariants.{Done, Refused, Unread, Usage, ReadFault, WriteFault, OutFault, NoMemory}
 use Rattle.apetool.specs.declared.format.Format.{Format}
-use Rattle.apetool.specs.Prints.{Written, Broken}
+use Rattle.ap_files.specs.Prints.{Written, Broken}
 use Rattle.apetool.specs.PlanTexts.{plan_text}
 use Rattle.apetool.specs.Formats.{text_in}
 

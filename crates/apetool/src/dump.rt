@@ -5,13 +5,11 @@ ghost use Rattle.ap_image.specs.Plans.{AreBacked};
 ghost use Rattle.apetool.specs.Dumps.{PartsAnswer, MakesParts, DumpEnds, Pictures};
 
 use crate::end::{Cause, ReadingFault};
-use crate::fetch::fetch;
 use crate::format::Format;
 use crate::planned::plan_of;
 use crate::show::print_text;
-use crate::store::store;
 use crate::text::plan_text;
-use ap_files::{Files, Sink};
+use ap_files::{Files, ReadAllFault, Sink, read_all, write_all};
 use ap_image::{DumpFault, Plan, address_count};
 use std::alloc::Global;
 
@@ -43,7 +41,7 @@ pub fn dump<F: Files, O: Sink>(
         Ok(parts) => parts,
         Err(cause) => return cause,
     };
-    match store(files, image, &parts.image) {
+    match write_all(files, image, &parts.image) {
         Ok(()) => print_text(out, &parts.text),
         Err(_) => Cause::WriteFault,
     }
@@ -67,9 +65,10 @@ fn parts_of<F: Files>(
     if total > WIDEST {
         return Err(Cause::Unread(ReadingFault::Wide { total }));
     }
-    match fetch(alloc, files, name, planned.size) {
+    match read_all(alloc, files, name, planned.size as usize) {
         Ok(file) => made_of(alloc, &planned.plan, &file),
-        Err(cause) => Err(cause),
+        Err(ReadAllFault::NoMemory) => Err(Cause::NoMemory),
+        Err(ReadAllFault::Read) => Err(Cause::ReadFault),
     }
 }
 

@@ -5,10 +5,9 @@ ghost use Rattle.apetool.specs.Lines.{line_of};
 ghost use Rattle.apetool.specs.Prints.{Reports};
 
 use crate::line::line;
-use crate::print::print;
 use ap_check::Fault;
 use ap_elf::ElfFault;
-use ap_files::Sink;
+use ap_files::{Sink, print};
 use ap_loader::ApeFault;
 
 /// Why a file isn't taken by a command that reads one.

@@ -5,9 +5,8 @@ ghost use Rattle.apetool.specs.Shows.{Answers, Ends, Makes, Printed};
 use crate::end::Cause;
 use crate::format::Format;
 use crate::planned::plan_of;
-use crate::print::print;
 use crate::text::plan_text;
-use ap_files::{Files, Sink};
+use ap_files::{Files, Sink, print};
 use ap_image::Plan;
 use std::alloc::Global;
 

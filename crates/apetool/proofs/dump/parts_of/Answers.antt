@@ -1,6 +1,6 @@
 use Rattle.std.proofs.Common.{subst, arith}
 use Rattle.apetool.specs.Dumps.{MakesParts}
-use Rattle.apetool.proofs.Dumping.{parts-refused, parts-wide, parts-made}
+use Rattle.apetool.proofs.Dumping.{parts-refused, parts-wide, parts-made, parts-unread}
 use Rattle.apetool.proofs.dump.parts_of.Goals as goal
 
 pub returns-in-Err : goal.returns-in-Err
@@ -12,8 +12,12 @@ returns-then-total-gt-WIDEST g c =
     parts-wide (g.F.Files.state c.args.files.now) (g.F.Files.state c.plan_of.new.files) c.args.format.now c.args.name.now c.in-Ok.planned c.address_count-total.result c.in-Ok.ensures.plan
     c.address_count-total.ensures (omega arith)
 
-pub returns-in-Ok-fetch : goal.returns-in-Ok-fetch
-returns-in-Ok-fetch g c =
-    parts-made (g.F.Files.state c.args.files.now) (g.F.Files.state c.plan_of.new.files) (g.F.Files.state c.fetch.new.files) c.args.format.now c.args.name.now c.in-Ok-fetch.file.items c.in-Ok.planned
-    c.made_of.result c.in-Ok.ensures.plan c.in-Ok-fetch.ensures.bytes
+pub returns-in-Ok-read_all : goal.returns-in-Ok-read_all
+returns-in-Ok-read_all g c =
+    parts-made (g.F.Files.state c.args.files.now) (g.F.Files.state c.plan_of.new.files) (g.F.Files.state c.read_all.new.files) c.args.format.now c.args.name.now c.in-Ok-read_all.file.items c.in-Ok.planned
+    c.made_of.result c.in-Ok.ensures.plan c.in-Ok-read_all.ensures.bytes
     (subst (λ bytes. MakesParts c.in-Ok.planned.plan bytes c.made_of.result) c.deref.ensures.value c.made_of.ensures)
+
+pub returns-in-Err-Read : goal.returns-in-Err-Read
+returns-in-Err-Read g c =
+    parts-unread (g.F.Files.state c.args.files.now) (g.F.Files.state c.plan_of.new.files) (g.F.Files.state c.read_all.new.files) c.args.format.now c.args.name.now c.in-Ok.planned c.in-Ok.ensures.plan (rw c.in-Err-Read.field-0-is at c.in-Err-Read.ensures.bytes)
