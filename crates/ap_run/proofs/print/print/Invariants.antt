@@ -1,0 +1,18 @@
+use Rattle.std.proofs.Common.{◌≡◌, ◌≤◌, ◌-◌, length, take}
+<<<<<<<< HEAD:crates/ap_files/proofs/text/print/Invariants.antt
+use Rattle.ap_files.specs.Prints.{Gains}
+use Rattle.ap_files.proofs.text.print.Given as goal
+========
+use Rattle.ap_run.specs.Prints.{Gains}
+use Rattle.ap_run.proofs.print.print.Given as goal
+>>>>>>>> gate:crates/ap_run/proofs/print/print/Invariants.antt
+
+abbrev pub invariant-loop-at : goal.invariant-loop-at
+invariant-loop-at g l = record {
+  below : l.at ≤ length l.text;
+  gained : Gains (g.S.Sink.state l.fn.sink) (g.S.Sink.state l.sink) (take l.at l.text);
+  faults : (g.S.Sink.state l.sink).faults ≡ (g.S.Sink.state l.fn.sink).faults;
+}
+
+abbrev pub decreases-loop-at : goal.decreases-loop-at
+decreases-loop-at g l = length l.text - l.at
