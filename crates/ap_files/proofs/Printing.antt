@@ -6,11 +6,7 @@ use Rattle.std.specs.Option.{option_map}
 use Rattle.ap_files.specs.Files.{Rose}
 use Rattle.ap_files.specs.Sinks.{SinkState, Writes}
 use Rattle.ap_files.specs.declared.failure.Failed.{Failed}
-<<<<<<<< HEAD:crates/ap_files/proofs/Printing.antt
 use Rattle.ap_files.specs.Prints.{Gains, Broken}
-========
-use Rattle.ap_run.specs.Prints.{Gains, Broken}
->>>>>>>> gate:crates/ap_run/proofs/Printing.antt
 
 gained-nothing : (o : Option (List ℕ)) → o ≡ option_map (λ w. w ++ []) o
 gained-nothing None = refl

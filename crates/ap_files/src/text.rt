@@ -1,9 +1,5 @@
 // Texts written to a sink.
-<<<<<<<< HEAD:crates/ap_files/src/text.rt
 ghost use Rattle.ap_files.specs.Prints.{Prints};
-========
-ghost use Rattle.ap_run.specs.Prints.{Prints};
->>>>>>>> gate:crates/ap_run/src/print.rt
 
 use crate::{Failed, Sink};
 

@@ -1,11 +1,6 @@
 use Rattle.std.proofs.Common.{◌∙◌, refl, arith}
-<<<<<<<< HEAD:crates/ap_files/proofs/text/print/Answers.antt
 use Rattle.ap_files.proofs.Printing.{gains-nothing, written-below, written-more}
 use Rattle.ap_files.proofs.text.print.Goals as goal
-========
-use Rattle.ap_run.proofs.Printing.{gains-nothing, written-below, written-more}
-use Rattle.ap_run.proofs.print.print.Goals as goal
->>>>>>>> gate:crates/ap_run/proofs/print/print/Answers.antt
 
 pub loop-at-init : goal.loop-at-init
 loop-at-init g c = record {

@@ -1,11 +1,6 @@
 use Rattle.std.proofs.Common.{◌≡◌, ◌≤◌, ◌-◌, length, take}
-<<<<<<<< HEAD:crates/ap_files/proofs/text/print/Invariants.antt
 use Rattle.ap_files.specs.Prints.{Gains}
 use Rattle.ap_files.proofs.text.print.Given as goal
-========
-use Rattle.ap_run.specs.Prints.{Gains}
-use Rattle.ap_run.proofs.print.print.Given as goal
->>>>>>>> gate:crates/ap_run/proofs/print/print/Invariants.antt
 
 abbrev pub invariant-loop-at : goal.invariant-loop-at
 invariant-loop-at g l = record {

@@ -1,12 +1,7 @@
 use Rattle.std.proofs.Common.{◌≡◌, ◌∙◌, ◌++◌, refl, arith, length, take, drop, vec_len}
 use Rattle.ap_files.proofs.ReadLemmas.{has_range}
-<<<<<<<< HEAD:crates/ap_files/proofs/whole/read_all/Answers.antt
 use Rattle.ap_files.proofs.Wholes.{whole-read, whole-unread}
 use Rattle.ap_files.proofs.whole.read_all.Goals as goal
-========
-use Rattle.ap_run.proofs.Fetching.{whole-read, whole-unread}
-use Rattle.ap_run.proofs.fetch.fetch.Goals as goal
->>>>>>>> gate:crates/ap_run/proofs/fetch/fetch/Answers.antt
 
 pub read_at-requires : goal.read_at-requires
 read_at-requires g c =
