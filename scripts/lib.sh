@@ -8,13 +8,14 @@ name=$(basename "$0")
 apetool=$(realpath -m "${1:-$root/crates/apetool/out/apetool}")
 passed=0
 failed=0
+skipped=0
 
 work=$(mktemp -d) || exit 2
 trap 'rm -rf "$work"' EXIT
 
 if [ ! -x "$apetool" ]; then
     echo "$name: there is no $apetool; 'rt run' in crates/apetool builds it"
-    echo '0 passed, 1 failed'
+    echo '0 passed, 1 failed, 0 skipped'
     exit 1
 fi
 
@@ -32,12 +33,13 @@ check() { # WHAT COMMAND..
 }
 
 skip() { # WHAT WHY
+    skipped=$((skipped + 1))
     echo "skipped: $1: $2"
 }
 
 # Ends the script: its last line has the counts, and its status isn't 0 where a check failed.
 finish() {
-    echo "$passed passed, $failed failed"
+    echo "$passed passed, $failed failed, $skipped skipped"
     exit $((failed > 0))
 }
 

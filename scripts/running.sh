@@ -4,14 +4,36 @@
 words=('' one 'two words' "it's" '"double"' '$HOME `id`' $'two\nlines' '*' -n --)
 shells=() # those that start a linked file, as far as they are here
 
+tmp=$work/tmp # what a run has as TMPDIR, or 'none' where it has none
+
 # Runs a command with lines to read and a variable of its own, and keeps what it prints and its status. The copies that the
-# script of a linked file leaves stay until the next run.
+# script of a linked file leaves in $work/tmp stay until the next run. The command has the process number by which a shell
+# names its copy.
 run() { # COMMAND..
     rm -rf "$work/tmp" && mkdir "$work/tmp"
     {
-        GREETING='good day' TMPDIR=$work/tmp "$@" <"$work/lines" >"$work/printed" 2>"$work/errors"
+        (
+            if [ "$tmp" = none ]; then unset TMPDIR; else export TMPDIR=$tmp; fi
+            export GREETING='good day'
+            exec "$@"
+        ) <"$work/lines" >"$work/printed" 2>"$work/errors" &
+        copy=ape.$!
+        wait "$!"
         status=$?
     } 2>/dev/null # where bash tells that a signal ended the command
+    case $tmp in none | '') rm -f "/tmp/$copy" ;; esac
+}
+
+ends() { # STATUS COMMAND..
+    run "${@:2}"
+    [ "$status" = "$1" ] && [ ! -s "$work/printed" ]
+}
+
+# A folder of commands that answer for others: NAME, and the lines of its script.
+fake() { # FOLDER NAME LINE..
+    mkdir -p "$1"
+    printf '%s\n' '#!/bin/sh' "${@:3}" >"$1/$2"
+    chmod 755 "$1/$2"
 }
 
 # Whether a command prints and ends as another program does with the same words.

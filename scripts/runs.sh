@@ -12,13 +12,6 @@ file=$work/linked
 stub=("$examples/start.S" '-Wl,-e,ape_start')
 c=(-O2 -static -pthread -o "$program" "$examples/threads.c")
 
-# A folder of one command that answers for another: the lines of its script.
-fake() { # FOLDER NAME LINE..
-    mkdir -p "$1"
-    printf '%s\n' '#!/bin/sh' "${@:3}" >"$1/$2"
-    chmod 755 "$1/$2"
-}
-
 runs() { # COMMAND..
     is_same "$program" "$@" "${words[@]}"
 }
@@ -26,11 +19,6 @@ runs() { # COMMAND..
 dies() { # COMMAND..
     run "$@"
     [ "$status" = $((128 + 11)) ] # by SIGSEGV
-}
-
-ends() { # STATUS COMMAND..
-    run "${@:2}"
-    [ "$status" = "$1" ] && [ ! -s "$work/printed" ]
 }
 
 # How a linked program ends. One without the stub may run or die by what its C library does, so where it is the other than

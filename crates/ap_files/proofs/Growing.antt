@@ -1,8 +1,8 @@
 -- Files that grow.
-use Rattle.std.proofs.Common.{◌≡◌, ◌≢◌, ℕ, ◌+◌, ◌-◌, ◌≤◌, List, [], ◌∷◌, ◌++◌, length, take, drop, cond, Option, Some, None, Ok, refl, sym, ap, ◌∙◌, arith, length-drop, unwrap_or, append_assoc, append-nil, zero, suc}
-use Rattle.std.proofs.lemmas.List.{take_rest, take-take, drop-take, take-append-drop, take_all, take-append-le}
+use Rattle.std.proofs.Common.{◌≡◌, ◌≢◌, ℕ, ◌+◌, ◌-◌, ◌≤◌, List, [], ◌++◌, length, take, drop, cond, Option, Some, None, Ok, refl, sym, ap, ◌∙◌, arith, length-drop, unwrap_or, append_assoc, append-nil}
+use Rattle.std.proofs.lemmas.List.{take_rest, take-take, drop-take, take-append-drop}
 use Rattle.std.specs.FinMap as map
-use Rattle.ap_files.specs.Files.{FileMap, FileState, KeepsCounts, ForFile, IsPresent, HasRange, with_file, with_added, bytes_in, Adds}
+use Rattle.ap_files.specs.Files.{FileMap, FileState, KeepsCounts, IsPresent, IsUnfinished, HasRange, with_file, with_added, bytes_in, told_bytes, Adds}
 use Rattle.ap_files.proofs.NameMaps.{one, two, same_name, get-put, put-put, put-same, get_changed}
 use Rattle.ap_files.proofs.ReadLemmas.{some_same, not_some}
 use Rattle.ap_files.specs.Reads.{HasSize}
@@ -74,31 +74,35 @@ size-file (Some m) input out xs size apart h m' e =
     let t = h m refl in
     (t.0, ap (λ x. map.get x input) (sym (some_same e)) ∙ stays m input out xs apart ∙ t.1, t.2)
 
--- what is told of another file before is told after
-pub told-added : {P : List ℕ → Type 0} (k : Option FileMap) (input out xs : List ℕ) → input ≢ out → ForFile (with_added k out xs) input P → ForFile k input P
-told-added {P} None input out xs apart h m b e g = absurd (not_some e)
-told-added {P} (Some m) input out xs apart h m' b e g =
-    let same : m ≡ m' = some_same e in
-    h (map.insert m out (bytes_in m out ++ xs)) b refl (stays m input out (bytes_in m out ++ xs) apart ∙ ap (λ x. map.get x input) same ∙ g)
+-- another file keeps its bytes
+pub bytes-added : (k : Option FileMap) (input out xs : List ℕ) → input ≢ out → told_bytes (with_added k out xs) input ≡ told_bytes k input
+bytes-added None input out xs apart = refl
+bytes-added (Some m) input out xs apart = ap (λ o. unwrap_or o []) (stays m input out (bytes_in m out ++ xs) apart)
 
-pub told-file : {P : List ℕ → Type 0} (k : Option FileMap) (input out xs : List ℕ) → input ≢ out → ForFile (with_file k out xs) input P → ForFile k input P
-told-file {P} None input out xs apart h m b e g = absurd (not_some e)
-told-file {P} (Some m) input out xs apart h m' b e g =
-    let same : m ≡ m' = some_same e in
-    h (map.insert m out xs) b refl (stays m input out xs apart ∙ ap (λ x. map.get x input) same ∙ g)
+pub bytes-file : (k : Option FileMap) (input out xs : List ℕ) → input ≢ out → told_bytes (with_file k out xs) input ≡ told_bytes k input
+bytes-file None input out xs apart = refl
+bytes-file (Some m) input out xs apart = ap (λ o. unwrap_or o []) (stays m input out xs apart)
+
+-- which bytes are appended matters only where files are told
+added_as_told : (k : Option FileMap) (name xs ys : List ℕ) → ((m : FileMap) → k ≡ Some m → xs ≡ ys) → with_added k name xs ≡ with_added k name ys
+added_as_told None name xs ys same = refl
+added_as_told (Some m) name xs ys same = ap (with_added (Some m) name) (same m refl)
+
+pub grows_as_told : (old new : FileState) (name xs ys : List ℕ) → ((m : FileMap) → old.kept ≡ Some m → xs ≡ ys) → Grows old new name xs → Grows old new name ys
+grows_as_told old new name xs ys same g = record { kept = g.kept ∙ added_as_told old.kept name xs ys same; unfinished = g.unfinished }
 
 still_told : (k : Option FileMap) (name xs : List ℕ) (m : FileMap) → k ≡ Some m → (n : FileMap) × (with_added k name xs ≡ Some n)
 still_told None name xs m e = absurd (not_some e)
 still_told (Some k) name xs m e = (map.insert k name (bytes_in k name ++ xs), refl)
 
 -- grown twice
-pub grows-nothing : (s : FileState) (name : List ℕ) → IsPresent s.kept name → Grows s s name []
-grows-nothing s name h = record { kept = sym (added-nothing s.kept name h); unfinished = λ m k u. u }
+pub grows-nothing : (s : FileState) (name : List ℕ) → IsUnfinished s name → Grows s s name []
+grows-nothing s name h = record { kept = sym (added-nothing s.kept name h.present); unfinished = h.unfinished }
 
 pub grows-again : (old mid new : FileState) (name xs ys : List ℕ) → Grows old mid name xs → Grows mid new name ys → Grows old new name (xs ++ ys)
 grows-again old mid new name xs ys a b = record {
   kept = b.kept ∙ ap (λ k. with_added k name ys) a.kept ∙ added-added old.kept name xs ys;
-  unfinished = λ m k u. let t = still_told old.kept name xs m k in b.unfinished t.0 (a.kept ∙ t.1) (a.unfinished m k u);
+  unfinished = λ m k. let t = still_told old.kept name xs m k in b.unfinished t.0 (a.kept ∙ t.1);
 }
 
 pub counts-again : (old mid new : FileState) → KeepsCounts old mid → KeepsCounts mid new → KeepsCounts old new
@@ -109,7 +113,7 @@ counts-again old mid new a b = record {
 }
 
 -- one piece more of a list
-take_piece : (xs : List ℕ) (at n : ℕ) → at + n ≤ length xs → take at xs ++ take n (take (length xs - at) (drop at xs)) ≡ take (at + n) xs
+pub take_piece : (xs : List ℕ) (at n : ℕ) → at + n ≤ length xs → take at xs ++ take n (take (length xs - at) (drop at xs)) ≡ take (at + n) xs
 take_piece xs at n h =
     ap (λ d. take at xs ++ take n d) (take_rest xs at)
     ∙ ap (λ f. f ++ take n (drop at xs)) (sym (take-take at (at + n) xs (omega arith)))
@@ -127,5 +131,5 @@ added_by old mid new name bytes at n below grown h =
     let part : List ℕ = take n (take (length bytes - at) (drop at bytes)) in
     record {
       kept = h.kept ∙ ap (λ k. with_added k name part) grown.kept ∙ added-added old.kept name (take at bytes) part ∙ ap (with_added old.kept name) (take_piece bytes at n fits);
-      unfinished = λ m k u. let t = still_told old.kept name (take at bytes) m k in h.unfinished t.0 (grown.kept ∙ t.1);
+      unfinished = λ m k. let t = still_told old.kept name (take at bytes) m k in h.unfinished t.0 (grown.kept ∙ t.1);
     }

@@ -1,7 +1,7 @@
 -- What follows from the answers of reads.
-use Rattle.std.proofs.Common.{◌≡◌, ◌⊎◌, inl, inr, ℕ, ◌+◌, ◌≤◌, List, length, Option, Some, None, Result, Ok, Err, refl, sym, ap, ◌∙◌, arith, subst}
+use Rattle.std.proofs.Common.{◌≡◌, ◌⊎◌, inl, inr, ℕ, ◌+◌, ◌≤◌, List, [], length, Option, Some, None, Result, Ok, Err, refl, sym, ap, ◌∙◌, arith, subst, unwrap_or}
 use Rattle.std.specs.FinMap as map
-use Rattle.ap_files.specs.Files.{FileMap, FileState, ForFile, Rose, Measures, KeepsFiles, KeepsCounts, HasRange}
+use Rattle.ap_files.specs.Files.{FileMap, FileState, ForFile, Rose, Measures, KeepsFiles, KeepsCounts, HasRange, told_bytes}
 use Rattle.ap_files.specs.Reads.{HasFile, HasSize, IsMissing, Reads, ReadFails, Unread}
 use Rattle.ap_files.specs.declared.failure.Failed.{Failed}
 
@@ -24,6 +24,10 @@ same_state old new files counts i = record {
 -- what holds of a file that is there
 pub told_of : {P : List ℕ → Type 0} (kept : Option FileMap) (name : List ℕ) (m : FileMap) (b : List ℕ) → HasFile kept name P → kept ≡ Some m → map.get m name ≡ Some b → P b
 told_of {P} kept name m b h k g = let t = h m k in subst P (some_same (sym t.1 ∙ g)) t.2
+
+-- the bytes of a file that is there
+pub told_as : (kept : Option FileMap) (name : List ℕ) (m : FileMap) (b : List ℕ) → kept ≡ Some m → map.get m name ≡ Some b → told_bytes kept name ≡ b
+told_as kept name m b k g = ap (λ o. told_bytes o name) k ∙ ap (λ o. unwrap_or o []) g
 
 -- a range within the size
 pub has_range : (kept : Option FileMap) (name : List ℕ) (size at n : ℕ) → HasSize kept name size → at + n ≤ size → HasRange kept name at n

@@ -24,9 +24,9 @@ pub record FileState : Type 0 where
   pub write_faults : ℕ
   pub absences : ℕ
 
--- a count rose, or stands at its last value, the greatest number of 64 bits
+-- a count rose by one, or stands at its last value, the greatest number of 64 bits
 abbrev pub Rose : ℕ → ℕ → Type 0
-Rose before now = min (before + 1) (2 ^ 64 - 1) ≤ now
+Rose before now = now ≡ min (before + 1) (2 ^ 64 - 1)
 
 pub record KeepsFiles (old new : FileState) : Type 0 where
   pub kept : new.kept ≡ old.kept
@@ -49,6 +49,11 @@ IsAbsent kept name = (m : FileMap) × (kept ≡ Some m) × (map.get m name ≡ N
 abbrev pub IsPresent : Option FileMap → List ℕ → Type 0
 IsPresent kept name = (m : FileMap) → kept ≡ Some m → (bytes : List ℕ) × (map.get m name ≡ Some bytes)
 
+-- where files are told, there is one of this name, and it is the unfinished one
+pub record IsUnfinished (files : FileState) (name : List ℕ) : Type 0 where
+  pub present : IsPresent files.kept name
+  pub unfinished : (m : FileMap) → files.kept ≡ Some m → files.unfinished ≡ Some name
+
 -- where files are told, there is one of this name, and it has n bytes from a place on
 abbrev pub HasRange : Option FileMap → List ℕ → ℕ → ℕ → Type 0
 HasRange kept name at n = (m : FileMap) → kept ≡ Some m → (bytes : List ℕ) × (map.get m name ≡ Some bytes) × (at + n ≤ length bytes)
@@ -60,6 +65,11 @@ with_file kept name bytes = option_map (λ m. map.insert m name bytes) kept
 -- the bytes of a file, and none where it is missing
 abbrev pub bytes_in : FileMap → List ℕ → List ℕ
 bytes_in m name = unwrap_or (map.get m name) []
+
+-- the bytes of a file, and none where files aren't told or it is missing
+abbrev pub told_bytes : Option FileMap → List ℕ → List ℕ
+told_bytes None name = []
+told_bytes (Some m) name = bytes_in m name
 
 -- the files with bytes appended to this one
 abbrev pub with_added : Option FileMap → List ℕ → List ℕ → Option FileMap

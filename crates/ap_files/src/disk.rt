@@ -32,12 +32,13 @@ enum Place {
     New { path: String, target: String },
 }
 
-/// The files of a machine. The file that was read last stays open, and so does the one that is
+/// The files of a machine. The two files that were read last stay open, and so does the one that is
 /// written.
 #[derive(Drop)]
 pub struct Disk<R> {
     machine: R,
-    read: Option<OpenedFile>,
+    last: Option<OpenedFile>,
+    other: Option<OpenedFile>,
     written: Option<WrittenFile>,
 }
 
@@ -45,7 +46,8 @@ impl<R: Files<File = File> + AllocGlobal + Drop> Disk<R> {
     pub fn new(machine: R) -> Disk<R> {
         Disk {
             machine,
-            read: None,
+            last: None,
+            other: None,
             written: None,
         }
     }
@@ -54,7 +56,7 @@ impl<R: Files<File = File> + AllocGlobal + Drop> Disk<R> {
     pub fn size(&mut self, name: &str) -> io::Result<u64> {
         let opened = self.opened(name)?;
         let size = opened.file.metadata()?.len();
-        self.read = Some(opened);
+        self.keep(opened);
         Ok(size)
     }
 
@@ -62,15 +64,25 @@ impl<R: Files<File = File> + AllocGlobal + Drop> Disk<R> {
     pub fn read_at(&mut self, name: &str, at: u64, buf: &mut [u8]) -> io::Result<()> {
         let opened = self.opened(name)?;
         opened.file.read_exact_at(buf, at)?;
-        self.read = Some(opened);
+        self.keep(opened);
         Ok(())
     }
 
-    /// The file of this name that is open, or opened now.
+    /// The file of this name that is open, or opened now. It isn't kept until `keep`.
     fn opened(&mut self, name: &str) -> io::Result<OpenedFile> {
-        match self.read.take() {
-            Some(opened) if opened.name.as_str() == name => Ok(opened),
-            _ => open_to_read(&self.machine, name),
+        if let Some(opened) = take_named(&mut self.last, name) {
+            return Ok(opened);
+        }
+        match take_named(&mut self.other, name) {
+            Some(opened) => Ok(opened),
+            None => open_to_read(&self.machine, name),
+        }
+    }
+
+    /// Keeps a file open that was read now, and the one that was read before it.
+    fn keep(&mut self, opened: OpenedFile) {
+        if let Some(before) = self.last.replace(opened) {
+            self.other = Some(before);
         }
     }
 
@@ -116,6 +128,17 @@ impl<R: Files<File = File> + AllocGlobal + Drop> Disk<R> {
             && let Place::New { path, .. } = &written.place
         {
             let _ = fs::remove_file(&self.machine, path.as_str());
+        }
+    }
+}
+
+/// The file that is kept, where it has this name; it isn't kept any more then.
+fn take_named(kept: &mut Option<OpenedFile>, name: &str) -> Option<OpenedFile> {
+    match kept.take() {
+        Some(opened) if opened.name.as_str() == name => Some(opened),
+        another => {
+            *kept = another;
+            None
         }
     }
 }

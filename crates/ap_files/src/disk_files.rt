@@ -21,6 +21,9 @@ use std::rt;
 /// A file is written under a new name in the same folder, and `finish` gives it the mode 0755 and
 /// its own name, in the place of what stood there. Only what is there and is no regular file, as a
 /// device or a pipe, is written in place.
+///
+/// The two files that were read last stay open, so that their bytes are those of the files whose sizes
+/// were asked, whatever becomes of their names.
 #[derive(Drop)]
 pub struct DiskFiles<R> {
     disk: Disk<R>,

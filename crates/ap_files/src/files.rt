@@ -1,5 +1,5 @@
 // Files by their names, with one meaning: their state.
-ghost use Rattle.ap_files.specs.Files.{FileState, IsPresent, HasRange, Measures, ReadsAt, Starts, Adds, Finishes};
+ghost use Rattle.ap_files.specs.Files.{FileState, IsUnfinished, HasRange, Measures, ReadsAt, Starts, Adds, Finishes};
 ghost use Rattle.std.specs.Prelude.{length};
 
 use crate::Failed;
@@ -32,17 +32,18 @@ pub trait Files {
     fn start(&mut self, name: &str) -> Result<(), Failed>
         ensures { Starts (state self.old) (state self.new) name.now result };
 
-    /// Appends the first bytes of the piece, and answers how many; at least one where there is one.
+    /// Appends the first bytes of the piece to the file that was started and isn't finished, and answers
+    /// how many; at least one where there is one.
     ///
     /// `Failed`: nothing was appended.
     fn add(&mut self, name: &str, piece: &[u8]) -> Result<usize, Failed>
-        requires { IsPresent (state self.old).kept name.now }
+        requires { IsUnfinished (state self.old) name.now }
         ensures { Adds (state self.old) (state self.new) name.now piece.now result };
 
-    /// Ends the writing of the file.
+    /// Ends the writing of the file that was started and isn't finished.
     ///
     /// `Failed`: it could not be ended, and the file is unfinished as before.
     fn finish(&mut self, name: &str) -> Result<(), Failed>
-        requires { IsPresent (state self.old).kept name.now }
+        requires { IsUnfinished (state self.old) name.now }
         ensures { Finishes (state self.old) (state self.new) name.now result };
 }

@@ -1,7 +1,7 @@
 // Files in memory, each in the room that was made for it.
-ghost use Rattle.std.specs.Prelude.{◌≡◌, ◌<◌, ◌≤◌, length, take, position, MatchOption, IfSome, IsSome, OnOk, OnErr};
+ghost use Rattle.std.specs.Prelude.{◌≡◌, ◌<◌, ◌≤◌, length, take, position, MatchOption, IfSome, IsSome, OnOk, OnErr, false};
 ghost use Rattle.std.specs.Bool.{OnTrue, OnFalse};
-ghost use Rattle.std.specs.Option.{option_copied};
+ghost use Rattle.std.specs.Option.{option_copied, option_map_or};
 ghost use Rattle.std.specs.Str.{bytes_eq};
 ghost use Rattle.std.specs.FinMap as map;
 ghost use Rattle.ap_files.specs.Files.{after_finish};
@@ -112,6 +112,16 @@ impl Store {
         }
         self.unfinished = Some(i);
         true
+    }
+
+    /// Whether a file is the unfinished one.
+    pub fn is_unfinished(&self, name: &str) -> bool
+        ensures { result ≡ option_map_or (λ n. bytes_eq n name.now) self.now.unfinished false }
+    {
+        match self.unfinished {
+            Some(i) => self.slots[i].has_name(name),
+            None => false,
+        }
     }
 
     /// Ends the writing of a file, where it is the unfinished one.

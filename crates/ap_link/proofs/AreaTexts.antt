@@ -4,10 +4,7 @@ use Rattle.std.proofs.lemmas.Bool.{cond-true, cond-false}
 use Rattle.std.proofs.lemmas.Bool.Decides.{nat_tests}
 use Rattle.std.proofs.lemmas.List.{take-replicate, drop_more}
 use Rattle.ap_fields.specs.Readings.{bytes_in}
-use Rattle.ap_files.specs.Files.{FileState}
-use Rattle.ap_link.specs.declared.copy.CopyFault.{CopyFault}
-use Rattle.ap_link.specs.declared.copy.CopyFault.TheVariants.{Read, Write}
-use Rattle.ap_link.specs.Transfers.{Puts, part_of}
+use Rattle.ap_link.specs.Sources.{part_of}
 use Rattle.ap_fields.specs.Bytes.{zeros, listed}
 use Rattle.ap_fields.specs.Granules.{IsGranule, ceil_of}
 use Rattle.ap_check.specs.declared.load.Load.{Load}
@@ -50,12 +47,6 @@ area-parts g gap room p b front behind fits fits2 f e =
     ap (λ x. x ++ (part ++ behind)) (f ∙ zeros-at-hand (gap + skew) room fits ∙ zeros-add gap skew)
     ∙ ap (λ x. (zeros gap ++ zeros skew) ++ (part ++ x)) (e ∙ zeros-at-hand left room fits2)
     ∙ append_assoc (zeros gap) (zeros skew) (part ++ zeros left)
-
--- a put of other bytes that are the same
-pub puts-same : (old new : FileState) (input out : List ℕ) (f h : List ℕ → List ℕ) (r : Result (Unit {0}) CopyFault) → ((b : List ℕ) → f b ≡ h b) → Puts old new input out f r → Puts old new input out h r
-puts-same old new input out f h (Ok x) e m = (m.0, m.1, m.2, λ k b t a. m.3 k b t a ∙ e b)
-puts-same old new input out f h (Err Read) e m = (m.0, m.1, m.2, λ k b t a. let x = m.3 k b t a in (x.0, x.1 ∙ ap (take x.0) (e b)))
-puts-same old new input out f h (Err Write) e m = (m.0, m.1, m.2, λ k b t a. let x = m.3 k b t a in (x.0, x.1 ∙ ap (take x.0) (e b)))
 
 -- zeros before a load's bytes, and behind them, are fewer than two granules
 pub gap-room : (g gap vaddr : ℕ) → IsGranule g → gap < g → gap + vaddr % g ≤ 32768

@@ -1,96 +1,73 @@
 -- The turns of a copy.
-use Rattle.std.proofs.Common.{◌≡◌, ◌≢◌, ℕ, ◌+◌, ◌≤◌, List, ◌++◌, length, take, drop, Option, Some, Result, Ok, Err, sym, ap, ◌∙◌, subst, arith}
-use Rattle.std.specs.FinMap as map
-use Rattle.ap_fields.specs.Bytes.{listed}
-use Rattle.ap_fields.specs.Readings.{bytes_in}
-use Rattle.ap_files.specs.Files.{FileMap, FileState, Rose, KeepsCounts, ForFile, IsPresent, HasRange, ReadsAt}
+use Rattle.std.proofs.Common.{◌≡◌, ◌≢◌, ℕ, ◌+◌, ◌-◌, ◌≤◌, List, length, take, drop, Option, Some, None, Ok, Err, sym, ap, ◌∙◌, subst, arith}
+use Rattle.ap_fields.proofs.Bytes.{listed-slice}
+use Rattle.ap_files.specs.Files.{FileMap, FileState, IsUnfinished, HasRange, ReadsAt, told_bytes}
+use Rattle.ap_files.specs.Appends.{Appends}
 use Rattle.ap_files.specs.declared.failure.Failed.{Failed}
-use Rattle.ap_files.proofs.ReadLemmas.{some_same}
-use Rattle.ap_files.specs.Appends.{Grows, Appends}
-use Rattle.ap_link.specs.Transfers.{Puts, part_of}
-use Rattle.ap_link.specs.declared.copy.CopyFault.TheVariants.{Read, Write}
-use Rattle.ap_files.proofs.Growing.{range-added, told-added, present-added, grows-again, counts-again}
-use Rattle.ap_link.proofs.PartLemmas.{part-more, part-front, front-longer}
+use Rattle.ap_files.specs.declared.failure.FileFault.{FileFault}
+use Rattle.ap_files.specs.declared.failure.FileFault.TheVariants.{Read}
+use Rattle.ap_files.proofs.ReadLemmas.{same_state, told_as}
+use Rattle.ap_files.proofs.Appending.{then, broken, stopped, as-told, still-unfinished, range-still, bytes-still}
+use Rattle.ap_link.specs.Sources.{part_of}
+use Rattle.ap_link.proofs.PartLemmas.{part-more, part-rest}
 
--- how far a copy has come
-pub record Copying (old now : FileState) (input out : List ℕ) (from count done : ℕ) : Type 0 where
-  pub below : done ≤ count
-  pub bytes : List ℕ
-  pub grown : Grows old now out bytes
-  pub told : ForFile old.kept input (λ b. bytes ≡ listed (bytes_in b) from done)
-  pub counts : KeepsCounts old now
+-- so many bytes are copied
+abbrev pub HasCopied : FileState → FileState → List ℕ → List ℕ → ℕ → ℕ → Option FileFault → Type 0
+HasCopied old now input out from done o = Appends old now out (part_of from done (told_bytes old.kept input)) o
 
-pub copy-range : (old now : FileState) (input out : List ℕ) (from count done size : ℕ) → Copying old now input out from count done → input ≢ out → HasRange old.kept input from count → done + size ≤ count
+pub copy-range : (old now : FileState) (input out : List ℕ) (from count done size : ℕ) → input ≢ out → HasRange old.kept input from count → done + size ≤ count → HasCopied old now input out from done None
     → HasRange now.kept input (from + done) size
-copy-range old now input out from count done size c apart has within m told =
-    let t = range-added old.kept input out c.bytes from count apart has m (sym c.grown.kept ∙ told) in
+copy-range old now input out from count done size apart has within c m told =
+    let t = range-still old now input out (part_of from done (told_bytes old.kept input)) from count apart c has m told in
     (t.0, t.1, (let l = t.2 in omega arith))
 
-pub copy-present : (old now new : FileState) (input out : List ℕ) (from count done at : ℕ) (before after : List ℕ) (r : Result (Unit {0}) Failed) → Copying old now input out from count done → ReadsAt now new input at before after r
-    → IsPresent new.kept out
-copy-present old now new input out from count done at before after r c read =
-    subst (λ k. IsPresent k out) (sym (read.files.kept ∙ c.grown.kept)) (present-added old.kept out c.bytes)
+-- the file that is written stays the unfinished one, also where a part was read
+pub copy-open : (old now mid : FileState) (input out : List ℕ) (from done at : ℕ) (before after : List ℕ) → IsUnfinished old out → HasCopied old now input out from done None → ReadsAt now mid input at before after (Ok tt)
+    → IsUnfinished mid out
+copy-open old now mid input out from done at before after opened c read =
+    subst (λ s. IsUnfinished s out) (sym (same_state now mid read.files read.ok)) (still-unfinished old now out (part_of from done (told_bytes old.kept input)) c opened)
+
+-- what stands so far breaks off before the rest
+copy-broken : (old new : FileState) (input out : List ℕ) (from count done : ℕ) (f : FileFault) → done ≤ count → HasCopied old new input out from done (Some f) → HasCopied old new input out from count (Some f)
+copy-broken old new input out from count done f below c =
+    let b : List ℕ = told_bytes old.kept input in
+    subst (λ t. Appends old new out t (Some f)) (part-rest b from count done below) (broken old new out (part_of from done b) (part_of (from + done) (count - done) b) f c)
 
 -- a read fails
-pub copy-unread : (old now new : FileState) (input out : List ℕ) (from count done at : ℕ) (before after : List ℕ) (e : Failed) → Copying old now input out from count done → ReadsAt now new input at before after (Err e)
-    → Puts old new input out (part_of from count) (Err Read)
-copy-unread old now new input out from count done at before after e c read = (
-  c.bytes,
-  record { kept = read.files.kept ∙ c.grown.kept; unfinished = λ m k u. read.files.unfinished ∙ c.grown.unfinished m k u },
-  record {
-    rose = subst (λ n. Rose n new.read_faults) c.counts.read_faults read.failed;
-    write_faults = read.write_faults ∙ c.counts.write_faults;
-    absences = read.absences ∙ c.counts.absences;
-  },
-  λ m b k g. (done, c.told m b k g ∙ part-front b from count done c.below),
-)
+pub copy-unread : (old now new : FileState) (input out : List ℕ) (from count done at : ℕ) (before after : List ℕ) (e : Failed) → IsUnfinished old out → done ≤ count → HasCopied old now input out from done None
+    → ReadsAt now new input at before after (Err e) → HasCopied old new input out from count (Some Read)
+copy-unread old now new input out from count done at before after e opened below c read =
+    let b : List ℕ = told_bytes old.kept input in
+    let rest : List ℕ = part_of (from + done) (count - done) b in
+    subst (λ t. Appends old new out t (Some Read)) (part-rest b from count done below)
+    (then old now new out (part_of from done b) rest (Some Read) c
+    (stopped now new out rest Read (still-unfinished old now out (part_of from done b) c opened) read.files
+    (record { rose = read.failed; others = read.write_faults; absences = read.absences })))
 
 -- what was read is the input's
-part-told : (old now new : FileState) (input out : List ℕ) (from count done size : ℕ) (before after : List ℕ) → Copying old now input out from count done → input ≢ out → length before ≡ size
-    → ReadsAt now new input (from + done) before after (Ok tt) → ForFile old.kept input (λ b. after ≡ take size (drop (from + done) b))
-part-told old now new input out from count done size before after c apart long read m b k g =
-    told-added {P = λ x. after ≡ take (length before) (drop (from + done) x)} old.kept input out c.bytes apart
-    (subst (λ s. ForFile s input (λ x. after ≡ take (length before) (drop (from + done) x))) c.grown.kept read.bytes) m b k g
-    ∙ ap (λ n. take n (drop (from + done) b)) long
+part-told : (now new : FileState) (input : List ℕ) (at size : ℕ) (before after : List ℕ) → length before ≡ size → HasRange now.kept input at size
+    → ReadsAt now new input at before after (Ok tt) → (m : FileMap) → now.kept ≡ Some m → after ≡ part_of at size (told_bytes now.kept input)
+part-told now new input at size before after long has read m k =
+    let t = has m k in
+    read.bytes m t.0 k t.1
+    ∙ ap (λ n. take n (drop at t.0)) long
+    ∙ sym (listed-slice t.0 at size t.2)
+    ∙ ap (part_of at size) (sym (told_as now.kept input m t.0 k t.1))
 
-fits-in : (kept : Option FileMap) (input : List ℕ) (from count : ℕ) (m : FileMap) (b : List ℕ) → HasRange kept input from count → kept ≡ Some m → map.get m input ≡ Some b → from + count ≤ length b
-fits-in kept input from count m b has k g =
-    let t = has m k in subst (λ x. from + count ≤ length x) (some_same (sym t.1 ∙ g)) t.2
+-- a piece is read and appended
+pub copy-turn : (old now mid new : FileState) (input out : List ℕ) (from count done size : ℕ) (before after : List ℕ) (o : Option FileFault) → input ≢ out → HasRange old.kept input from count → done + size ≤ count → length before ≡ size
+    → HasCopied old now input out from done None → ReadsAt now mid input (from + done) before after (Ok tt) → Appends mid new out after o → HasCopied old new input out from (done + size) o
+copy-turn old now mid new input out from count done size before after o apart has within long c read added =
+    let b : List ℕ = told_bytes old.kept input in
+    let there = copy-range old now input out from count done size apart has within c in
+    let same = bytes-still old now input out (part_of from done b) apart c in
+    let piece = subst (λ s. Appends s new out after o) (same_state now mid read.files read.ok) added in
+    subst (λ t. Appends old new out t o) (part-more b from done size)
+    (then old now new out (part_of from done b) (part_of (from + done) size b) o c
+    (as-told now new out after (part_of (from + done) size b) o
+    (λ m k. part-told now mid input (from + done) size before after long there read m k ∙ ap (part_of (from + done) size) same) piece))
 
-read-grows : (now new : FileState) (input out : List ℕ) (at : ℕ) (before after : List ℕ) (old : FileState) (bytes : List ℕ) → ReadsAt now new input at before after (Ok tt) → Grows old now out bytes → Grows old new out bytes
-read-grows now new input out at before after old bytes read grown = record {
-  kept = read.files.kept ∙ grown.kept;
-  unfinished = λ m k u. read.files.unfinished ∙ grown.unfinished m k u;
-}
-
--- a write fails
-pub copy-unwritten : (old now mid new : FileState) (input out : List ℕ) (from count done size : ℕ) (before after : List ℕ) (e : Failed) → Copying old now input out from count done → input ≢ out
-    → HasRange old.kept input from count → done + size ≤ count → length before ≡ size → ReadsAt now mid input (from + done) before after (Ok tt) → Appends mid new out after (Err e)
-    → Puts old new input out (part_of from count) (Err Write)
-copy-unwritten old now mid new input out from count done size before after e c apart has within long read added = (
-  c.bytes ++ take added.0.0 after,
-  grows-again old mid new out c.bytes (take added.0.0 after) (read-grows now mid input out (from + done) before after old c.bytes read c.grown) added.0.1,
-  record {
-    rose = subst (λ n. Rose n new.write_faults) (read.ok.write_faults ∙ c.counts.write_faults) added.1.rose;
-    read_faults = added.1.read_faults ∙ read.ok.read_faults ∙ c.counts.read_faults;
-    absences = added.1.absences ∙ read.ok.absences ∙ c.counts.absences;
-  },
-  λ m b k g.
-      let fits = fits-in old.kept input from count m b has k g in
-      let front = front-longer b after from done size count added.0.0 (omega arith) within (part-told old now mid input out from count done size before after c apart long read m b k g) in
-      (front.0, ap (λ x. x ++ take added.0.0 after) (c.told m b k g) ∙ front.1),
-)
-
--- a turn
-pub copy-turn : (old now mid new : FileState) (input out : List ℕ) (from count done size : ℕ) (before after : List ℕ) → Copying old now input out from count done → input ≢ out
-    → HasRange old.kept input from count → done + size ≤ count → length before ≡ size → ReadsAt now mid input (from + done) before after (Ok tt) → Appends mid new out after (Ok tt)
-    → Copying old new input out from count (done + size)
-copy-turn old now mid new input out from count done size before after c apart has within long read added = record {
-  below = within;
-  bytes = c.bytes ++ after;
-  grown = grows-again old mid new out c.bytes after (read-grows now mid input out (from + done) before after old c.bytes read c.grown) added.0;
-  told = λ m b k g.
-      let fits = fits-in old.kept input from count m b has k g in
-      ap (λ x. x ++ after) (c.told m b k g) ∙ part-more b from done size after (omega arith) (part-told old now mid input out from count done size before after c apart long read m b k g);
-  counts = counts-again old mid new (counts-again old now mid c.counts read.ok) added.1;
-}
+pub copy-unwritten : (old now mid new : FileState) (input out : List ℕ) (from count done size : ℕ) (before after : List ℕ) (f : FileFault) → input ≢ out → HasRange old.kept input from count → done + size ≤ count → length before ≡ size
+    → HasCopied old now input out from done None → ReadsAt now mid input (from + done) before after (Ok tt) → Appends mid new out after (Some f) → HasCopied old new input out from count (Some f)
+copy-unwritten old now mid new input out from count done size before after f apart has within long c read added =
+    copy-broken old new input out from count (done + size) f within (copy-turn old now mid new input out from count done size before after (Some f) apart has within long c read added)

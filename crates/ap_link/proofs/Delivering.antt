@@ -1,7 +1,11 @@
 -- How a link of inputs that were taken ends.
-use Rattle.std.proofs.Common.{◌≡◌, ◌≢◌, ◌⊎◌, inl, inr, ℕ, List, ◌++◌, length, take, IfSome, Option, Some, None, Result, Ok, Err, refl, sym, ap, ◌∙◌, subst}
+use Rattle.std.proofs.Common.{◌≡◌, ◌≢◌, inr, ℕ, List, ◌++◌, length, IfSome, Option, Some, None, Ok, Err, refl, sym, ap, ◌∙◌, subst}
 use Rattle.ap_fields.specs.FirstFault.{first_fault}
-use Rattle.ap_files.specs.Files.{FileMap, FileState, with_file}
+use Rattle.ap_files.specs.Files.{FileMap, FileState, with_file, told_bytes}
+use Rattle.ap_files.specs.Appends.{Fails, Makes, HasPart}
+use Rattle.ap_files.specs.declared.failure.FileFault.{FileFault}
+use Rattle.ap_files.specs.declared.failure.FileFault.TheVariants.{Read, Write}
+use Rattle.ap_files.proofs.ReadLemmas.{told_as}
 use Rattle.ap_check.specs.declared.fault.Fault.{Fault}
 use Rattle.ap_check.specs.declared.options.Options.{Options}
 use Rattle.ap_check.specs.Inputs.{Taken, input_of}
@@ -10,16 +14,13 @@ use Rattle.ap_check.proofs.Laws.{input_meets}
 use Rattle.ap_check.proofs.Pairs.{pair-says}
 use Rattle.ap_layout.specs.Positions.{Positions, positions_of, inputs_of}
 use Rattle.ap_script.specs.Blocks.{block_of}
-use Rattle.ap_link.specs.declared.copy.CopyFault.{CopyFault}
-use Rattle.ap_link.specs.declared.copy.CopyFault.TheVariants.{Read, Write}
 use Rattle.ap_link.specs.declared.end.LinkEnd.{LinkEnd}
 use Rattle.ap_link.specs.declared.end.LinkEnd.TheVariants as end
 use Rattle.ap_link.specs.declared.source.Source.{Source}
 use Rattle.ap_link.specs.Linked.{block_for, tail_of, second_of, taken_second, linked_of}
 use Rattle.ap_link.specs.Answers.{IsLinked}
-use Rattle.ap_link.specs.FileAnswers.{HasInputs, HasFront, LinksFiles}
-use Rattle.ap_link.specs.Sources.{second_name, second_taken, second_bytes, IsSource, end_of_copy}
-use Rattle.ap_link.specs.Transfers.{ForInputs, Makes}
+use Rattle.ap_link.specs.FileAnswers.{HasInputs, HasLinkedPart, LinksFiles}
+use Rattle.ap_link.specs.Sources.{second_name, second_taken, second_bytes, second_told, tail_told, AreReadable, IsSource, end_of_fault}
 use Rattle.ap_link.proofs.LinkedFiles.{AreLinkable, apart-by, file-linked, file-length}
 
 -- ---- what is told of inputs
@@ -28,16 +29,28 @@ pub inputs-have : (P Q : List ℕ → Option (List ℕ) → Type 0) (kept : Opti
 inputs-have P Q kept first None f h = λ m k. let t = h m k in (t.0, t.1, f t.0 None t.2)
 inputs-have P Q kept first (Some n) f h = λ m k. let t = h m k in (t.0, t.1, λ m' k'. let u = t.2 m' k' in (u.0, u.1, f t.0 (Some u.0) u.2))
 
-pub inputs-both : (P Q : List ℕ → Option (List ℕ) → Type 0) (kept : Option FileMap) (first : List ℕ) (second : Option (List ℕ)) → HasInputs kept first second P → ForInputs kept first second Q
-    → HasInputs kept first second (λ a b. P a b × Q a b)
-inputs-both P Q kept first None h q = λ m k. let t = h m k in (t.0, t.1, (t.2, q m t.0 k t.1))
-inputs-both P Q kept first (Some n) h q = λ m k. let t = h m k in (t.0, t.1, λ m' k'. let u = t.2 m' k' in (u.0, u.1, (u.2, q m t.0 k t.1 m' u.0 k' u.1)))
+-- the bytes of inputs that are there
+abbrev AreTold : Option FileMap → List ℕ → Option (List ℕ) → List ℕ → Option (List ℕ) → Type 0
+AreTold kept first second a b = (told_bytes kept first ≡ a) × (second_told kept second ≡ b)
+
+inputs-told : (P : List ℕ → Option (List ℕ) → Type 0) (kept : Option FileMap) (first : List ℕ) (second : Option (List ℕ)) → HasInputs kept first second P
+    → HasInputs kept first second (λ a b. P a b × AreTold kept first second a b)
+inputs-told P kept first None h = λ m k. let t = h m k in (t.0, t.1, (t.2, (told_as kept first m t.0 k t.1, refl)))
+inputs-told P kept first (Some n) h = λ m k.
+    let t = h m k in
+    (t.0, t.1, λ m' k'. let u = t.2 m' k' in (u.0, u.1, (u.2, (told_as kept first m t.0 k t.1, ap Some (told_as kept n m' u.0 k' u.1)))))
 
 -- the inputs are there, and were taken of their bytes
 pub sources-taken : (kept : Option FileMap) (first : Source) (second : Option Source) → IsSource kept 1 first → IfSome second (λ s. IsSource kept 2 s)
     → HasInputs kept first.name.now (second_name second) (λ a b. AreTakenOf a b first.input.now (second_taken second))
 sources-taken kept first None h k = h.told
 sources-taken kept first (Some s) h k = λ m e. let t = h.told m e in (t.0, t.1, λ m' e'. let u = k.told m' e' in (u.0, u.1, (t.2, u.2)))
+
+-- and their files can be read while another is written
+pub sources-readable : (kept : Option FileMap) (first : Source) (second : Option Source) (out : List ℕ) → IsSource kept 1 first → IfSome second (λ s. IsSource kept 2 s) → first.name.now ≢ out → IfSome second (λ s. s.name.now ≢ out)
+    → AreReadable kept first second out
+sources-readable kept first None out h k apart others = (record { size = h.size; apart = apart }, tt)
+sources-readable kept first (Some s) out h k apart others = (record { size = h.size; apart = apart }, record { size = k.size; apart = others })
 
 -- ---- inputs that meet all rules
 
@@ -91,78 +104,67 @@ ready options e (Some s) a (Some b) pair is = two-ready options e s a b is.0 is.
 
 -- ---- the ends
 
-abbrev pub whole-of : Options → Taken → Option Source → List ℕ → Option (List ℕ) → List ℕ
-whole-of options e second a b = block_for options e (second_taken second) ++ tail_of e a (second_bytes second b)
+-- what stands of the bytes of the inputs' files, where the inputs are told
+pub record IsReadyFor (options : Options) (text : List ℕ) (n : ℕ) (a : List ℕ) (b : Option (List ℕ)) : Type 0 where
+  pub none : first_fault_of_both options a b ≡ None
+  pub text_is : text ≡ linked_of options a b
+  pub linked : IsLinked options a b (linked_of options a b)
+  pub size : n ≡ length (linked_of options a b)
 
-all-ready : (options : Options) (kept : Option FileMap) (first : Source) (second : Option Source) → IsSource kept 1 first → IfSome second (λ s. IsSource kept 2 s)
-    → first_fault (pair_rules options first.input.now (second_taken second)) ≡ None
-    → HasInputs kept first.name.now (second_name second) (λ a b. IsReady options first.input.now second a b)
-all-ready options kept first second h k pair =
-    inputs-have (λ a b. AreTakenOf a b first.input.now (second_taken second)) (λ a b. IsReady options first.input.now second a b) kept first.name.now (second_name second)
-    (λ a b is. ready options first.input.now second a b pair is) (sources-taken kept first second h k)
+text-ready : (options : Options) (kept : Option FileMap) (first : Source) (second : Option Source) (block : List ℕ) (n : ℕ) (a : List ℕ) (b : Option (List ℕ))
+    → first_fault (pair_rules options first.input.now (second_taken second)) ≡ None → block ≡ block_for options first.input.now (second_taken second) → n ≡ (positions_of options first.input.now (second_taken second)).total
+    → AreTakenOf a b first.input.now (second_taken second) → AreTold kept first.name.now (second_name second) a b → IsReadyFor options (block ++ tail_told kept first second) n a b
+text-ready options kept first second block n a b pair is total taken told =
+    let r = ready options first.input.now second a b pair taken in
+    record {
+      none = r.none;
+      text_is = ap (λ x. x ++ tail_told kept first second) is
+          ∙ ap (λ x. block_for options first.input.now (second_taken second) ++ tail_of first.input.now x (second_bytes second (second_told kept (second_name second)))) told.0
+          ∙ ap (λ x. block_for options first.input.now (second_taken second) ++ tail_of first.input.now a (second_bytes second x)) told.1
+          ∙ r.bytes;
+      linked = r.linked;
+      size = total ∙ r.size;
+    }
 
--- a front of the file
-front-is : (options : Options) (old new : FileState) (name : List ℕ) (e : Taken) (second : Option Source) (out bytes : List ℕ) → HasInputs old.kept name (second_name second) (λ a b. IsReady options e second a b)
-    → new.kept ≡ with_file old.kept out bytes → ForInputs old.kept name (second_name second) (λ a b. (n : ℕ) × (bytes ≡ take n (whole-of options e second a b)))
-    → HasFront options old new name (second_name second) out
-front-is options old new name e second out bytes has kept told =
-    inputs-have (λ a b. IsReady options e second a b × ((n : ℕ) × (bytes ≡ take n (whole-of options e second a b))))
-    (λ a b. (first_fault_of_both options a b ≡ None) × ((n : ℕ) × (new.kept ≡ with_file old.kept out (take n (linked_of options a b))))) old.kept name (second_name second)
-    (λ a b t. (t.0.none, (t.1.0, kept ∙ ap (with_file old.kept out) (t.1.1 ∙ ap (take t.1.0) t.0.bytes))))
-    (inputs-both (λ a b. IsReady options e second a b) (λ a b. (n : ℕ) × (bytes ≡ take n (whole-of options e second a b))) old.kept name (second_name second) has told)
+-- of inputs that were taken and break no rule
+pub all-ready : (options : Options) (kept : Option FileMap) (first : Source) (second : Option Source) (block : List ℕ) (n : ℕ) → IsSource kept 1 first → IfSome second (λ s. IsSource kept 2 s)
+    → first_fault (pair_rules options first.input.now (second_taken second)) ≡ None → block ≡ block_for options first.input.now (second_taken second) → n ≡ (positions_of options first.input.now (second_taken second)).total
+    → HasInputs kept first.name.now (second_name second) (IsReadyFor options (block ++ tail_told kept first second) n)
+all-ready options kept first second block n h k pair is total =
+    inputs-have (λ a b. AreTakenOf a b first.input.now (second_taken second) × AreTold kept first.name.now (second_name second) a b)
+    (IsReadyFor options (block ++ tail_told kept first second) n) kept first.name.now (second_name second)
+    (λ a b t. text-ready options kept first second block n a b pair is total t.0 t.1)
+    (inputs-told (λ a b. AreTakenOf a b first.input.now (second_taken second)) kept first.name.now (second_name second) (sources-taken kept first second h k))
 
--- the file was made
-made : (options : Options) (old new : FileState) (name : List ℕ) (e : Taken) (second : Option Source) (out : List ℕ) (n : ℕ) → HasInputs old.kept name (second_name second) (λ a b. IsReady options e second a b)
-    → n ≡ (positions_of options e (second_taken second)).total → Makes old new name (second_name second) out (whole-of options e second) (Ok tt) → LinksFiles options old new name (second_name second) out (Ok n)
-made options old new name e second out n has is m = record {
-  counts = m.0;
-  unfinished = m.1;
-  linked = inputs-have (λ a b. IsReady options e second a b × (m.2.0 ≡ whole-of options e second a b))
-      (λ a b. (first_fault_of_both options a b ≡ None) × (new.kept ≡ with_file old.kept out (linked_of options a b)) × IsLinked options a b (linked_of options a b)) old.kept name (second_name second)
-      (λ a b t. (t.0.none, m.2.1 ∙ ap (with_file old.kept out) (t.1 ∙ t.0.bytes), t.0.linked))
-      (inputs-both (λ a b. IsReady options e second a b) (λ a b. m.2.0 ≡ whole-of options e second a b) old.kept name (second_name second) has m.2.2);
-  size = inputs-have (λ a b. IsReady options e second a b) (λ a b. n ≡ length (linked_of options a b)) old.kept name (second_name second) (λ a b t. is ∙ t.size) has;
+-- the file is made of them
+pub links-made : (options : Options) (old new : FileState) (first : List ℕ) (second : Option (List ℕ)) (out text : List ℕ) (n : ℕ) → HasInputs old.kept first second (IsReadyFor options text n)
+    → Makes old new out text None → LinksFiles options old new first second out (Ok n)
+links-made options old new first second out text n has m = record {
+  counts = m.counts;
+  unfinished = m.unfinished;
+  linked = inputs-have (IsReadyFor options text n)
+      (λ a b. (first_fault_of_both options a b ≡ None) × (new.kept ≡ with_file old.kept out (linked_of options a b)) × IsLinked options a b (linked_of options a b)) old.kept first second
+      (λ a b t. (t.none, m.kept ∙ ap (with_file old.kept out) t.text_is, t.linked)) has;
+  size = inputs-have (IsReadyFor options text n) (λ a b. n ≡ length (linked_of options a b)) old.kept first second (λ a b t. t.size) has;
 }
 
--- it wasn't
-unmade : (options : Options) (old new : FileState) (name : List ℕ) (e : Taken) (second : Option Source) (out : List ℕ) (f : CopyFault) → HasInputs old.kept name (second_name second) (λ a b. IsReady options e second a b)
-    → Makes old new name (second_name second) out (whole-of options e second) (Err f) → LinksFiles options old new name (second_name second) out (Err (end_of_copy f))
-unmade options old new name e second out Read has m = inr (m.0, front-is options old new name e second out m.1.0 has m.1.1 m.1.2)
-unmade options old new name e second out Write has m = (
-  m.0,
-  elim m.1 [
-    | inl same ↦
-        inputs-have (λ a b. IsReady options e second a b)
-        (λ a b. (first_fault_of_both options a b ≡ None) × ((new.kept ≡ old.kept) ⊎ ((n : ℕ) × (new.kept ≡ with_file old.kept out (take n (linked_of options a b)))))) old.kept name (second_name second)
-        (λ a b t. (t.none, inl same)) has
-    | inr h ↦
-        inputs-have (λ a b. (first_fault_of_both options a b ≡ None) × ((n : ℕ) × (new.kept ≡ with_file old.kept out (take n (linked_of options a b)))))
-        (λ a b. (first_fault_of_both options a b ≡ None) × ((new.kept ≡ old.kept) ⊎ ((n : ℕ) × (new.kept ≡ with_file old.kept out (take n (linked_of options a b)))))) old.kept name (second_name second)
-        (λ a b t. (t.0, inr t.1)) (front-is options old new name e second out h.0 has h.1 h.2)
-  ],
-)
+-- it isn't
+links-by : (options : Options) (old new : FileState) (first : List ℕ) (second : Option (List ℕ)) (out text : List ℕ) (n : ℕ) (f : FileFault) → HasInputs old.kept first second (IsReadyFor options text n)
+    → Makes old new out text (Some f) → LinksFiles options old new first second out (Err (end_of_fault f))
+links-by options old new first second out text n f has m = by f m.1
+  where
+    part : HasLinkedPart options old new first second out
+    part = inputs-have (IsReadyFor options text n) (λ a b. (first_fault_of_both options a b ≡ None) × HasPart old new out (linked_of options a b)) old.kept first second
+        (λ a b t. (t.none, subst (HasPart old new out) t.text_is m.0)) has
 
--- a file made of other bytes that are the same
-pub makes-same : (old new : FileState) (first : List ℕ) (second : Option (List ℕ)) (out x y : List ℕ) (tail : List ℕ → Option (List ℕ) → List ℕ) (r : Result (Unit {0}) CopyFault) → x ≡ y
-    → Makes old new first second out (λ a b. x ++ tail a b) r → Makes old new first second out (λ a b. y ++ tail a b) r
-makes-same old new first second out x y tail r is m = subst (λ z. Makes old new first second out (λ a b. z ++ tail a b) r) is m
+    by : (f : FileFault) → Fails f old new → LinksFiles options old new first second out (Err (end_of_fault f))
+    by Read fails = inr (fails, part)
+    by Write fails = (fails, part)
 
-pub links-made : (options : Options) (old new : FileState) (first : Source) (second : Option Source) (out block : List ℕ) (n : ℕ) → IsSource old.kept 1 first → IfSome second (λ s. IsSource old.kept 2 s)
-    → first_fault (pair_rules options first.input.now (second_taken second)) ≡ None → block ≡ block_for options first.input.now (second_taken second) → n ≡ (positions_of options first.input.now (second_taken second)).total
-    → Makes old new first.name.now (second_name second) out (λ a b. block ++ tail_of first.input.now a (second_bytes second b)) (Ok tt)
-    → LinksFiles options old new first.name.now (second_name second) out (Ok n)
-links-made options old new first second out block n h k pair is total m =
-    made options old new first.name.now first.input.now second out n (all-ready options old.kept first second h k pair) total
-    (makes-same old new first.name.now (second_name second) out block (block_for options first.input.now (second_taken second)) (λ a b. tail_of first.input.now a (second_bytes second b)) (Ok tt) is m)
-
-pub links-unmade : (options : Options) (old new : FileState) (first : Source) (second : Option Source) (out block : List ℕ) (f : CopyFault) (e : LinkEnd) → IsSource old.kept 1 first → IfSome second (λ s. IsSource old.kept 2 s)
-    → first_fault (pair_rules options first.input.now (second_taken second)) ≡ None → block ≡ block_for options first.input.now (second_taken second) → e ≡ end_of_copy f
-    → Makes old new first.name.now (second_name second) out (λ a b. block ++ tail_of first.input.now a (second_bytes second b)) (Err f)
-    → LinksFiles options old new first.name.now (second_name second) out (Err e)
-links-unmade options old new first second out block f e h k pair is ends m =
-    subst (λ x. LinksFiles options old new first.name.now (second_name second) out (Err x)) (sym ends)
-    (unmade options old new first.name.now first.input.now second out f (all-ready options old.kept first second h k pair)
-    (makes-same old new first.name.now (second_name second) out block (block_for options first.input.now (second_taken second)) (λ a b. tail_of first.input.now a (second_bytes second b)) (Err f) is m))
+pub links-unmade : (options : Options) (old new : FileState) (first : List ℕ) (second : Option (List ℕ)) (out text : List ℕ) (n : ℕ) (f : FileFault) (e : LinkEnd) → HasInputs old.kept first second (IsReadyFor options text n)
+    → e ≡ end_of_fault f → Makes old new out text (Some f) → LinksFiles options old new first second out (Err e)
+links-unmade options old new first second out text n f e has ends m =
+    subst (λ x. LinksFiles options old new first second out (Err x)) (sym ends) (links-by options old new first second out text n f has m)
 
 -- the inputs break a rule together
 pub links-refused : (options : Options) (old : FileState) (first : Source) (second : Option Source) (out : List ℕ) (f : Fault) → IsSource old.kept 1 first → IfSome second (λ s. IsSource old.kept 2 s)

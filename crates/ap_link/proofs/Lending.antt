@@ -12,13 +12,13 @@ use Rattle.ap_check.proofs.Pairs.{pair-says}
 use Rattle.ap_layout.specs.Positions.{positions_of, inputs_of}
 use Rattle.ap_layout.proofs.Fitting.{positions-fit}
 use Rattle.ap_script.specs.Claims.{block_claims}
-use Rattle.ap_link.specs.declared.copy.CopyFault.{CopyFault}
-use Rattle.ap_link.specs.declared.copy.CopyFault.TheVariants.{Read, Write}
+use Rattle.ap_files.specs.declared.failure.FileFault.{FileFault}
+use Rattle.ap_files.specs.declared.failure.FileFault.TheVariants.{Read, Write}
 use Rattle.ap_link.specs.declared.end.LinkEnd.{LinkEnd}
 use Rattle.ap_link.specs.declared.source.Source.{Source}
 use Rattle.ap_link.specs.Linked.{tail_of, second_of, taken_second, linked_of}
 use Rattle.ap_link.specs.Lent.{IsLent, HasLent, LendsToFiles}
-use Rattle.ap_link.specs.Sources.{second_name, second_taken, IsSource, end_of_copy}
+use Rattle.ap_link.specs.Sources.{second_name, second_taken, IsSource, end_of_fault}
 use Rattle.ap_link.proofs.ClaimedFiles.{bytes-lent, owners-lent}
 use Rattle.ap_link.proofs.Delivering.{inputs-have, sources-taken}
 use Rattle.ap_link.proofs.LinkedFiles.{AreLinkable, both-linkable}
@@ -65,10 +65,10 @@ lent-files options s kept first second x y block h k pair also same some filled 
     (sources-taken kept first second h k)
 
 -- and where the file wasn't made
-pub lent-unmade : (options : Options) (kept : Option FileMap) (old new : BlockState) (first : List ℕ) (second : Option (List ℕ)) (f : CopyFault) (e : LinkEnd) → e ≡ end_of_copy f → HasLent options kept new first second
+pub lent-unmade : (options : Options) (kept : Option FileMap) (old new : BlockState) (first : List ℕ) (second : Option (List ℕ)) (f : FileFault) (e : LinkEnd) → e ≡ end_of_fault f → HasLent options kept new first second
     → LendsToFiles options kept old new first second (Err e)
 lent-unmade options kept old new first second f e is h = subst (λ x. LendsToFiles options kept old new first second (Err x)) (sym is) (by f)
   where
-    by : (f : CopyFault) → LendsToFiles options kept old new first second (Err (end_of_copy f))
+    by : (f : FileFault) → LendsToFiles options kept old new first second (Err (end_of_fault f))
     by Read = inr h
     by Write = inr h

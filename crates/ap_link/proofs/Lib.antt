@@ -1,8 +1,7 @@
 pub mod PartLemmas
 pub mod Copying
-pub mod Putting
 pub mod AreaTexts
-pub mod Placing
+pub mod Writing
 pub mod Granules
 pub mod Contents
 pub mod Shown
@@ -13,13 +12,10 @@ pub mod Fitting
 pub mod LinkedImages
 pub mod PlacedTexts
 pub mod LinkedFiles
-pub mod InputsTold
-pub mod MakingFiles
 pub mod Building
 pub mod Linking
 pub mod EndsBehind
 pub mod LaidAreas
-pub mod PutInputs
 pub mod Delivering
 pub mod Handing
 pub mod ClaimedFiles

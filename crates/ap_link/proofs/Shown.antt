@@ -134,7 +134,7 @@ none-before : (g size : ℕ) (byte : ℕ → ℕ) (low end : ℕ) (entries : Lis
 none-before g size byte low end [] a is order before below = refl
 none-before g size byte low end (p ∷ entries) a is order before below =
     let load = order.0 in
-    let from : IsLoad g size (floor_of p.vaddr g) (load_of p) = record { some = load.some; sizes = load.sizes; part = load.part; base = load.base; top = load.top; order = omega arith; perms = load.perms } in
+    let from : IsLoad g size (floor_of p.vaddr g) (load_of p) = record { some = load.some; sizes = load.sizes; part = load.part; base = load.base; top = load.top; order = omega arith; perms = load.perms; readable = load.readable } in
     none-below g size byte (floor_of p.vaddr g) (p ∷ entries) a is (from, order.1) (omega arith)
 
 -- the same of other spellings

@@ -1,8 +1,9 @@
 -- How a link of files ends.
-use Rattle.std.specs.Prelude.{◌≡◌, ◌⊎◌, ℕ, List, take, length, Result, Ok, Err, Option, Some, None}
+use Rattle.std.specs.Prelude.{◌≡◌, ◌⊎◌, ℕ, List, length, Result, Ok, Err, Option, Some, None}
 use Rattle.ap_files.specs.Files.{FileMap, FileState, KeepsCounts, with_file}
 use Rattle.ap_files.specs.Reads.{HasFile, Unread}
-use Rattle.ap_files.specs.Appends.{ReadRose, WriteRose}
+use Rattle.ap_files.specs.Appends.{Fails, HasPart}
+use Rattle.ap_files.specs.declared.failure.FileFault.TheVariants as file
 use Rattle.ap_check.specs.declared.fault.Fault.{Fault}
 use Rattle.ap_check.specs.declared.options.Options.{Options}
 use Rattle.ap_check.specs.Rules.{first_fault_of}
@@ -38,19 +39,14 @@ abbrev pub AreUnread : FileState → FileState → List ℕ → Option (List ℕ
 AreUnread old new first None = Unread old new first
 AreUnread old new first (Some second) = Unread old new first ⊎ (Unread old new second × HasFile old.kept first (λ a. first_fault_of 1 a ≡ None))
 
--- the inputs meet all rules, and `out` was started and has a front of their linked file
-abbrev pub HasFront : Options → FileState → FileState → List ℕ → Option (List ℕ) → List ℕ → Type 0
-HasFront options old new first second out =
-    HasInputs old.kept first second (λ a b. (first_fault_of_both options a b ≡ None) × ((n : ℕ) × (new.kept ≡ with_file old.kept out (take n (linked_of options a b)))))
-
--- the inputs meet all rules, and `out` wasn't started, or has a front of their linked file
-abbrev pub HasFrontOrNothing : Options → FileState → FileState → List ℕ → Option (List ℕ) → List ℕ → Type 0
-HasFrontOrNothing options old new first second out =
-    HasInputs old.kept first second (λ a b. (first_fault_of_both options a b ≡ None) × ((new.kept ≡ old.kept) ⊎ ((n : ℕ) × (new.kept ≡ with_file old.kept out (take n (linked_of options a b))))))
+-- the inputs meet all rules, and `out` wasn't started, or has a front of their linked file and is the unfinished file
+abbrev pub HasLinkedPart : Options → FileState → FileState → List ℕ → Option (List ℕ) → List ℕ → Type 0
+HasLinkedPart options old new first second out =
+    HasInputs old.kept first second (λ a b. (first_fault_of_both options a b ≡ None) × HasPart old new out (linked_of options a b))
 
 -- how a link of files ends
 abbrev pub LinksFiles : Options → FileState → FileState → List ℕ → Option (List ℕ) → List ℕ → Result ℕ LinkEnd → Type 0
 LinksFiles options old new first second out (Ok size) = FilesLinked options old new first second out size
 LinksFiles options old new first second out (Err (Rule broken)) = (new ≡ old) × AreRefused options old.kept first second broken
-LinksFiles options old new first second out (Err ReadFault) = AreUnread old new first second ⊎ (ReadRose old new × HasFront options old new first second out)
-LinksFiles options old new first second out (Err WriteFault) = WriteRose old new × HasFrontOrNothing options old new first second out
+LinksFiles options old new first second out (Err ReadFault) = AreUnread old new first second ⊎ (Fails file.Read old new × HasLinkedPart options old new first second out)
+LinksFiles options old new first second out (Err WriteFault) = Fails file.Write old new × HasLinkedPart options old new first second out

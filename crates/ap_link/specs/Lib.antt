@@ -1,7 +1,6 @@
 pub mod Linked
 pub mod LinkedClaims
 pub mod Nexts
-pub mod Transfers
 pub mod Sources
 pub mod Same
 pub mod LinkedIn

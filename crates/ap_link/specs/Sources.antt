@@ -1,18 +1,21 @@
 -- One or two inputs of files, as they were taken.
-use Rattle.std.specs.Prelude.{◌≡◌, ℕ, List, Option, Some, None}
-use Rattle.ap_files.specs.Files.{FileMap}
+use Rattle.std.specs.Prelude.{◌≡◌, ◌≢◌, ℕ, List, IfSome, Option, Some, None}
+use Rattle.ap_fields.specs.Bytes.{listed}
+use Rattle.ap_fields.specs.Readings.{bytes_in}
+use Rattle.ap_files.specs.Files.{FileMap, told_bytes}
 use Rattle.ap_files.specs.Reads.{HasFile, HasSize}
+use Rattle.ap_files.specs.declared.failure.FileFault.{FileFault}
+use Rattle.ap_files.specs.declared.failure.FileFault.TheVariants as file
 use Rattle.ap_check.specs.declared.end.CheckEnd.{CheckEnd}
 use Rattle.ap_check.specs.declared.end.CheckEnd.TheVariants as check
 use Rattle.ap_check.specs.declared.options.Options.{Options}
 use Rattle.ap_check.specs.Inputs.{Taken}
 use Rattle.ap_check.specs.Both.{IsTakenOf}
 use Rattle.ap_layout.specs.Positions.{Positions, positions_of}
-use Rattle.ap_link.specs.declared.copy.CopyFault.{CopyFault}
-use Rattle.ap_link.specs.declared.copy.CopyFault.TheVariants as copy
 use Rattle.ap_link.specs.declared.end.LinkEnd.{LinkEnd}
 use Rattle.ap_link.specs.declared.end.LinkEnd.TheVariants.{Rule, ReadFault, WriteFault}
 use Rattle.ap_link.specs.declared.source.Source.{Source}
+use Rattle.ap_link.specs.Linked.{tail_of}
 
 -- the name of the second input's file, and what was taken of it, with bytes and without
 abbrev pub second_name : Option Source → Option (List ℕ)
@@ -27,6 +30,31 @@ abbrev pub second_bytes : Option Source → Option (List ℕ) → Option (Taken 
 second_bytes None b = None
 second_bytes (Some s) None = None
 second_bytes (Some s) (Some b) = Some (s.input.now, b)
+
+-- the bytes of the second input's file, and none where files aren't told
+abbrev pub second_told : Option FileMap → Option (List ℕ) → Option (List ℕ)
+second_told kept None = None
+second_told kept (Some name) = Some (told_bytes kept name)
+
+-- what stands behind the block of a linked file, by the bytes of the inputs' files
+abbrev pub tail_told : Option FileMap → Source → Option Source → List ℕ
+tail_told kept first second =
+    tail_of first.input.now (told_bytes kept first.name.now) (second_bytes second (second_told kept (second_name second)))
+
+-- the bytes of a part of an input
+abbrev pub part_of : ℕ → ℕ → List ℕ → List ℕ
+part_of from count input = listed (bytes_in input) from count
+
+-- the file of an input is there with so many bytes, and isn't the one that is written
+pub record IsReadable (kept : Option FileMap) (name : List ℕ) (n : ℕ) (out : List ℕ) : Type 0 where
+  pub size : HasSize kept name n
+  pub apart : name ≢ out
+
+abbrev pub IsReadableSource : Option FileMap → List ℕ → Source → Type 0
+IsReadableSource kept out s = IsReadable kept s.name.now s.input.now.size out
+
+abbrev pub AreReadable : Option FileMap → Source → Option Source → List ℕ → Type 0
+AreReadable kept first second out = IsReadableSource kept out first × IfSome second (IsReadableSource kept out)
 
 -- it was taken of the file of its name, which has its size, as the input of this number
 pub record IsSource (kept : Option FileMap) (n : ℕ) (s : Source) : Type 0 where
@@ -43,6 +71,6 @@ abbrev pub end_of_check : CheckEnd → LinkEnd
 end_of_check (check.Rule fault) = Rule fault
 end_of_check check.ReadFault = ReadFault
 
-abbrev pub end_of_copy : CopyFault → LinkEnd
-end_of_copy copy.Read = ReadFault
-end_of_copy copy.Write = WriteFault
+abbrev pub end_of_fault : FileFault → LinkEnd
+end_of_fault file.Read = ReadFault
+end_of_fault file.Write = WriteFault

@@ -1,58 +1,45 @@
-// The areas of an input, put behind what stands of a linked file.
-ghost use Rattle.std.specs.Prelude.{◌≡◌, ◌≢◌, ◌<◌, ◌≤◌, ◌+◌, ◌++◌, ◌^◌, length};
+// The areas of an input, written behind what stands of a linked file.
+ghost use Rattle.std.specs.Prelude.{◌≡◌, ◌≢◌, ◌<◌, ◌+◌, ◌++◌, ◌^◌};
 ghost use Rattle.ap_fields.specs.Bytes as bytes;
 ghost use Rattle.ap_fields.specs.Granules.{IsGranule};
 ghost use Rattle.ap_fields.specs.Readings.{bytes_in};
-ghost use Rattle.ap_files.specs.Files.{IsPresent, HasRange};
-ghost use Rattle.ap_files.specs.Reads.{HasSize};
+ghost use Rattle.ap_files.specs.Files.{IsUnfinished, HasRange, told_bytes};
+ghost use Rattle.ap_files.specs.Appends.{Appends, failure_of};
 ghost use Rattle.ap_layout.specs.Areas as spec;
 ghost use Rattle.ap_layout.specs.Areas.{content_of};
-ghost use Rattle.ap_link.specs.Linked.{areas_text};
-ghost use Rattle.ap_link.specs.Nexts.{AreNext};
-ghost use Rattle.ap_link.specs.Transfers.{Puts};
+ghost use Rattle.ap_layout.specs.Positions.{input_areas};
+ghost use Rattle.ap_link.specs.Linked.{input_text};
+ghost use Rattle.ap_link.specs.Sources.{IsReadable};
 
-use crate::copy::CopyFault;
-use crate::put::{Parts, put_parts};
-use ap_check::Load;
+use crate::copy::copy;
+use ap_check::{Input, Load};
 use ap_fields::ceil_to;
-use ap_files::Files;
+use ap_files::{FileFault, Files, append};
 use ap_layout::Area;
 
-/// The loads of an input and their areas, by the granule of its machine.
-#[derive(Clone, Copy)]
-pub struct Placed<'a> {
-    pub loads: &'a [Load],
-    pub areas: &'a [Area],
-    pub granule: u64,
-}
-
-/// Appends the areas that are new to the file `out`, of which `from` bytes stand, by the bytes of the file `input`, which
-/// has `size` of them.
-pub fn put_areas<F: Files>(
+/// Appends the areas of an input that are new to the file `out`, of which `from` bytes stand, by the bytes of the file `name`.
+pub fn write_input<F: Files>(
     files: &mut F,
-    input: &str,
-    out: &str,
-    placed: &Placed<'_>,
-    size: u64,
+    name: &str,
+    input: &Input,
+    areas: &[Area],
     from: u64,
-) -> Result<(), CopyFault>
-    requires granule { IsGranule placed.now.granule }
-    requires count { length placed.now.loads.now ≡ length placed.now.areas.now }
-    requires next { AreNext placed.now.granule size from placed.now.loads.now placed.now.areas.now }
-    requires small { size ≤ 2 ^ 28 }
-    requires apart { input.now ≢ out.now }
-    requires out { IsPresent (F.state files.old).kept out.now }
-    requires size { HasSize (F.state files.old).kept input.now size }
-    ensures { Puts (F.state files.old) (F.state files.new) input.now out.now (λ b. areas_text from placed.now.granule (bytes_in b) placed.now.loads.now placed.now.areas.now) result }
+    out: &str,
+) -> Result<(), FileFault>
+    requires areas { areas.now ≡ input_areas input.now from }
+    requires small { from < 2 ^ 31 }
+    requires readable { IsReadable (F.state files.old).kept name.now input.now.size out.now }
+    requires out { IsUnfinished (F.state files.old) out.now }
+    ensures { Appends (F.state files.old) (F.state files.new) out.now
+        (input_text from input.now (told_bytes (F.state files.old).kept name.now)) (failure_of result) }
 {
+    let loads = input.loads.as_slice();
+    let granule = input.machine.granule();
     let mut end = from;
-    for (i, p) in placed.loads.iter().enumerate() {
-        let area = placed.areas[i];
+    for (i, p) in loads.iter().enumerate() {
+        let area = areas[i];
         if is_new(&area, end) {
-            let gap = area.file - end;
-            if let Err(fault) = put_area(files, input, out, p, placed.granule, gap) {
-                return Err(fault);
-            }
+            write_area(files, name, out, p, granule, area.file - end)?;
             end = area.file + area.len;
         }
     }
@@ -68,31 +55,33 @@ pub fn is_new(area: &Area, end: u64) -> bool
 
 // Appends `gap` zeros and the content of a load's area.
 #[tactic(auto, using(ap_fields::proofs::Granules::powers))]
-fn put_area<F: Files>(
+fn write_area<F: Files>(
     files: &mut F,
     input: &str,
     out: &str,
     p: &Load,
     granule: u64,
     gap: u64,
-) -> Result<(), CopyFault>
+) -> Result<(), FileFault>
     requires granule { IsGranule granule }
     requires gap { gap < granule }
     requires small { p.now.offset + p.now.filesz < 2 ^ 63 }
     requires apart { input.now ≢ out.now }
-    requires out { IsPresent (F.state files.old).kept out.now }
+    requires out { IsUnfinished (F.state files.old) out.now }
     requires range { HasRange (F.state files.old).kept input.now p.now.offset p.now.filesz }
-    ensures { Puts (F.state files.old) (F.state files.new) input.now out.now (λ b. bytes.zeros gap ++ content_of granule (bytes_in b) p.now) result }
+    ensures { Appends (F.state files.old) (F.state files.new) out.now
+        (bytes.zeros gap ++ content_of granule (bytes_in (told_bytes (F.state files.old).kept input.now)) p.now) (failure_of result) }
 {
     let zeros = [0; 1 << 15];
     let skew = p.vaddr % granule;
     let end = skew + p.filesz;
     let behind = ceil_to(end, granule) - end;
-    let parts = Parts {
-        front: &zeros[..(gap + skew) as usize],
-        from: p.offset,
-        count: p.filesz,
-        behind: &zeros[..behind as usize],
-    };
-    put_parts(files, input, out, &parts)
+    if let Err(_) = append(files, out, &zeros[..(gap + skew) as usize]) {
+        return Err(FileFault::Write);
+    }
+    copy(files, input, out, p.offset, p.filesz)?;
+    match append(files, out, &zeros[..behind as usize]) {
+        Ok(()) => Ok(()),
+        Err(_) => Err(FileFault::Write),
+    }
 }

@@ -9,8 +9,7 @@ ghost use Rattle.ap_script.specs.Claims.{block_claims};
 ghost use Rattle.ap_script.specs.Jobs.{job_inputs};
 ghost use Rattle.ap_link.specs.Linked.{tail_of, input_text, block_for, with_bytes};
 
-use crate::areas::Placed;
-use crate::bytes::push_areas;
+use crate::bytes::{Placed, push_areas};
 use crate::fill::fill;
 use crate::laid::{areas_of, end_behind};
 use ap_check::{Input, Job};

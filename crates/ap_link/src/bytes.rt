@@ -7,10 +7,19 @@ ghost use Rattle.ap_layout.specs.Areas.{content_of};
 ghost use Rattle.ap_link.specs.Linked.{areas_text};
 ghost use Rattle.ap_link.specs.Nexts.{AreNext};
 
-use crate::areas::{Placed, is_new};
+use crate::areas::is_new;
 use ap_check::Load;
 use ap_fields::ceil_to;
+use ap_layout::Area;
 use std::alloc::AllocError;
+
+/// The loads of an input and their areas, by the granule of its machine.
+#[derive(Clone, Copy)]
+pub struct Placed<'a> {
+    pub loads: &'a [Load],
+    pub areas: &'a [Area],
+    pub granule: u64,
+}
 
 /// Appends the areas that are new, where `from` bytes of the file stand.
 pub fn push_areas(

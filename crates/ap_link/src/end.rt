@@ -2,8 +2,8 @@
 ghost use Rattle.std.specs.Prelude.{◌≡◌};
 ghost use Rattle.ap_link.specs.Sources as spec;
 
-use crate::copy::CopyFault;
 use ap_check::{CheckEnd, Fault};
+use ap_files::FileFault;
 
 /// Why a link of files ended without its file.
 #[derive(Clone, Copy, Debug, PartialEq, Eq)]
@@ -27,11 +27,11 @@ pub(crate) fn end_of_check(end: CheckEnd) -> LinkEnd
 }
 
 /// How it ends where its file isn't made.
-pub(crate) fn end_of_copy(fault: CopyFault) -> LinkEnd
-    ensures { result ≡ spec.end_of_copy fault }
+pub(crate) fn end_of_fault(fault: FileFault) -> LinkEnd
+    ensures { result ≡ spec.end_of_fault fault }
 {
     match fault {
-        CopyFault::Read => LinkEnd::ReadFault,
-        CopyFault::Write => LinkEnd::WriteFault,
+        FileFault::Read => LinkEnd::ReadFault,
+        FileFault::Write => LinkEnd::WriteFault,
     }
 }

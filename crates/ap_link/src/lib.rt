@@ -11,10 +11,9 @@ mod fill;
 mod image;
 mod laid;
 mod linker;
-mod make;
-mod put;
 mod source;
 mod stream;
+mod write;
 
 pub use end::LinkEnd;
 pub use fault::LinkFault;

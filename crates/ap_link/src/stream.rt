@@ -6,10 +6,10 @@ ghost use Rattle.ap_link.specs.FileAnswers.{LinksFiles};
 ghost use Rattle.ap_link.specs.Lent.{LendsToFiles};
 ghost use Rattle.ap_link.specs.Sources.{IsSource, second_name, second_taken};
 
-use crate::end::{LinkEnd, end_of_check, end_of_copy};
+use crate::end::{LinkEnd, end_of_check, end_of_fault};
 use crate::fill::fill;
-use crate::make::make_file;
 use crate::source::{Source, Sources};
+use crate::write::write_linked;
 use ap_check::{Input, Options, check_all, check_input_in};
 use ap_claims::Block;
 use ap_files::Files;
@@ -133,9 +133,9 @@ fn link_sources<F: Files>(
     };
     let lay = place(&job);
     fill(block, &job, &lay);
-    match make_file(files, sources, &lay, block.bytes(), out) {
+    match write_linked(files, sources, &lay, block.bytes(), out) {
         Ok(()) => Ok(lay.total),
-        Err(fault) => Err(end_of_copy(fault)),
+        Err(fault) => Err(end_of_fault(fault)),
     }
 }
 

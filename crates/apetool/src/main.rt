@@ -1,25 +1,10 @@
-// Links ELF programs into APE files.
+// The program: the machine's files, standard output and standard error, and what ap_run does with them.
 #![tactic(auto)]
 
-mod dump;
-mod end;
-mod fetch;
-mod format;
-mod line;
-mod link;
-mod options;
-mod planned;
-mod print;
-mod run;
-mod show;
-mod store;
-mod systems;
-mod text;
-mod words;
+ghost use Rattle.std.specs.Prelude.{◌≡◌};
 
-use crate::end::{Cause, end_by};
-use crate::run::run;
 use ap_files::{DiskFiles, ErrSink, OutSink};
+use ap_run::{Cause, End, end_by, run};
 use std::env;
 use std::process::ExitCode;
 
@@ -29,18 +14,22 @@ fn main(rt: HostRuntime) -> ExitCode {
     let mut err = ErrSink::new(rt.stderr());
     let mut words = Vec::new(alloc);
     let Ok(args) = env::args(&rt) else {
-        return ExitCode::from(end_by(&mut err, Cause::Usage).status);
+        return ExitCode::from(status_of(&end_by(&mut err, Cause::Usage)));
     };
     for word in args.skip(1) {
         if words.push(word).is_err() {
-            return ExitCode::from(end_by(&mut err, Cause::NoMemory).status);
+            return ExitCode::from(status_of(&end_by(&mut err, Cause::NoMemory)));
         }
     }
     let mut files = DiskFiles::new(rt);
     let end = run(alloc, &words, &mut files, &mut out, &mut err);
     files.discard();
-    ExitCode::from(end.status)
+    ExitCode::from(status_of(&end))
 }
 
-#[cfg(test)]
-mod tests;
+/// The status that the process ends with.
+fn status_of(end: &End) -> u8
+    ensures { result ≡ end.now.status }
+{
+    end.status
+}

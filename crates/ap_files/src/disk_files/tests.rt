@@ -38,7 +38,7 @@ struct Case {
     faults: (u64, u64),
 }
 
-static CASES: [Case; 8] = [
+static CASES: [Case; 9] = [
     // a file stands under its name once it is finished, and whole
     Case {
         steps: &[
@@ -114,6 +114,26 @@ static CASES: [Case; 8] = [
             (Step::Size("in", 3), false),
         ],
         faults: (2, 0),
+    },
+    // and so are two files that are read in turns, but not a third
+    Case {
+        steps: &[
+            (Step::Make("a", b"abc"), true),
+            (Step::Make("b", b"xyz"), true),
+            (Step::Make("c", b"012"), true),
+            (Step::Size("a", 3), true),
+            (Step::Size("b", 3), true),
+            (Step::Remove("a"), true),
+            (Step::Remove("b"), true),
+            (Step::Read("a", 0, b"ab"), true),
+            (Step::Read("b", 1, b"yz"), true),
+            (Step::Read("b", 0, b"x"), true),
+            (Step::Read("a", 2, b"c"), true),
+            (Step::Read("c", 0, b"0"), true),
+            (Step::Read("a", 0, b"abc"), true),
+            (Step::Read("b", 0, b"x"), false),
+        ],
+        faults: (1, 0),
     },
     // a symbolic link is followed, also to where nothing stands
     Case {

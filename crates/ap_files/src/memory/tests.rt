@@ -144,11 +144,17 @@ fn read(files: &mut MemoryFiles, name: &str, at: u64, count: usize) -> Option<Re
 
 fn add(files: &mut MemoryFiles, name: &str, piece: &[u8]) -> Option<Result<u64, Failed>> {
     let _ = files.bytes(name)?;
+    if !files.is_unfinished(name) {
+        return None;
+    }
     Some(files.add(name, piece).map(|count| count as u64))
 }
 
 fn finish(files: &mut MemoryFiles, name: &str) -> Option<Result<u64, Failed>> {
     let _ = files.bytes(name)?;
+    if !files.is_unfinished(name) {
+        return None;
+    }
     Some(files.finish(name).map(|()| 0))
 }
 

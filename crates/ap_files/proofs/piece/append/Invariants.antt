@@ -1,13 +1,11 @@
-use Rattle.std.proofs.Common.{◌≤◌, ◌-◌, length, take}
-use Rattle.ap_files.specs.Files.{KeepsCounts}
-use Rattle.ap_files.specs.Appends.{Grows}
+use Rattle.std.proofs.Common.{◌≤◌, ◌-◌, length, take, None}
+use Rattle.ap_files.specs.Appends.{Appends}
 use Rattle.ap_files.proofs.piece.append.Given as goal
 
 abbrev pub invariant-loop-at : goal.invariant-loop-at
 invariant-loop-at g l = record {
   below : l.at ≤ length l.piece;
-  grown : Grows (g.F.Files.state l.fn.files) (g.F.Files.state l.files) l.name (take l.at l.piece);
-  counts : KeepsCounts (g.F.Files.state l.fn.files) (g.F.Files.state l.files);
+  done : Appends (g.F.Files.state l.fn.files) (g.F.Files.state l.files) l.name (take l.at l.piece) None;
 }
 
 abbrev pub decreases-loop-at : goal.decreases-loop-at

@@ -1,10 +1,11 @@
-use Rattle.std.proofs.Common.{◌≡◌, ℕ, ◌-◌, length}
-use Rattle.ap_link.proofs.Copying.{Copying}
+use Rattle.std.proofs.Common.{◌≡◌, ◌≤◌, ℕ, ◌-◌, length, None}
+use Rattle.ap_link.proofs.Copying.{HasCopied}
 use Rattle.ap_link.proofs.copy.copy.Given as goal
 
 abbrev pub invariant-loop-done : goal.invariant-loop-done
 invariant-loop-done g l = record {
-  far : Copying (g.F.Files.state l.fn.files) (g.F.Files.state l.files) l.input l.out l.from l.count l.done;
+  below : l.done ≤ l.count;
+  copied : HasCopied (g.F.Files.state l.fn.files) (g.F.Files.state l.files) l.input l.out l.from l.done None;
   room : (let size : ℕ = 65536 in length l.buffer ≡ size);
 }
 

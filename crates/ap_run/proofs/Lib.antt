@@ -1,0 +1,10 @@
+pub mod Complete
+pub mod Fetching
+pub mod Planning
+pub mod Digits
+pub mod GivenWords
+pub mod LinkWords
+pub mod SystemNames
+pub mod Showing
+pub mod Dumping
+pub mod ViewCells

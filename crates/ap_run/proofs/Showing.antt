@@ -1,0 +1,69 @@
+-- How a file is shown, step by step.
+use Rattle.std.proofs.Common.{◌≡◌, ℕ, ◌^◌, Bool, true, false, cond, List, length, Vec, Result, Ok, Err, refl, sym, ap, ◌∙◌}
+use Rattle.std.specs.Prelude.{nat_lt}
+use Rattle.std.specs.declared.alloc.Global.{Global}
+use Rattle.ap_files.specs.Files.{FileState}
+use Rattle.ap_files.specs.Sinks.{SinkState}
+use Rattle.ap_image.specs.Plans.{Mapping}
+use Rattle.ap_run.specs.declared.end.ReadingFault.{ReadingFault}
+use Rattle.ap_run.specs.declared.end.ReadingFault.TheVariants as fault
+use Rattle.ap_run.specs.declared.end.Cause.{Cause}
+use Rattle.ap_run.specs.declared.end.Cause.TheVariants.{Done, Refused, Unread, Usage, ReadFault, WriteFault, OutFault, NoMemory}
+use Rattle.ap_run.specs.declared.format.Format.{Format}
+use Rattle.ap_run.specs.declared.planned.Planned.{Planned}
+use Rattle.ap_run.specs.Formats.{plan_in, text_of, text_in}
+use Rattle.ap_run.specs.FilePlans.{sized_plan_in, IsPlanned, Plans}
+use Rattle.ap_run.specs.Shows.{IsShown, Ends, Printed, Answers, Makes}
+
+by-size : (large : Bool) (f : ReadingFault) (plan : Result Mapping ReadingFault) → cond large (Err f) (text_of plan) ≡ text_of (cond large (Err f) plan)
+by-size true f plan = refl
+by-size false f plan = refl
+
+text_in-plan : (format : Format) (b : List ℕ) → text_in format b ≡ text_of (sized_plan_in format b)
+unfolding text_in sized_plan_in
+text_in-plan format b = by-size (nat_lt (2 ^ 30) (length b)) (fault.Large (length b)) (plan_in format b)
+
+is-shown : (old : FileState) (format : Format) (name : List ℕ) (plan : Result Mapping ReadingFault) (shown : Result (List ℕ) ReadingFault) → IsPlanned old format name plan → text_of plan ≡ shown → IsShown old format name shown
+is-shown old format name plan shown planned is m k = let t = planned m k in (t.0, t.1, text_in-plan format t.0 ∙ ap text_of t.2 ∙ is)
+
+pub answers-refused : (old new : FileState) (format : Format) (name : List ℕ) (cause : Cause) → Plans old new format name (Err cause) → Answers old new format name (Err cause)
+answers-refused old new format name (Unread f) h = (h.0, is-shown old format name (Err f) (Err f) h.1 refl)
+answers-refused old new format name ReadFault h = h
+answers-refused old new format name Done h = absurd h
+answers-refused old new format name (Refused f) h = absurd h
+answers-refused old new format name Usage h = absurd h
+answers-refused old new format name WriteFault h = absurd h
+answers-refused old new format name OutFault h = absurd h
+answers-refused old new format name NoMemory h = absurd h
+
+pub answers-made : (old new : FileState) (format : Format) (name : List ℕ) (planned : Planned) (r : Result (Vec ℕ Global) Cause) → Plans old new format name (Ok planned) → Makes planned.plan r → Answers old new format name r
+answers-made old new format name planned (Ok text) h m = (h.0, is-shown old format name (Ok planned.plan) (Ok text.items) h.2 (ap (λ (l : List ℕ). Ok l) (sym m)))
+answers-made old new format name planned (Err NoMemory) h m = h.0
+answers-made old new format name planned (Err (Unread f)) h m = absurd m
+answers-made old new format name planned (Err Done) h m = absurd m
+answers-made old new format name planned (Err (Refused f)) h m = absurd m
+answers-made old new format name planned (Err Usage) h m = absurd m
+answers-made old new format name planned (Err ReadFault) h m = absurd m
+answers-made old new format name planned (Err WriteFault) h m = absurd m
+answers-made old new format name planned (Err OutFault) h m = absurd m
+
+pub ends-printed : (old new : FileState) (before after : SinkState) (format : Format) (name text : List ℕ) (cause : Cause) → (new ≡ old) × IsShown old format name (Ok text)
+    → Printed before after text cause → Ends old new before after format name cause
+ends-printed old new before after format name text Done h p = (h.0, (text, p, h.1))
+ends-printed old new before after format name text OutFault h p = (h.0, (text, p, h.1))
+ends-printed old new before after format name text (Refused f) h p = absurd p
+ends-printed old new before after format name text (Unread f) h p = absurd p
+ends-printed old new before after format name text Usage h p = absurd p
+ends-printed old new before after format name text ReadFault h p = absurd p
+ends-printed old new before after format name text WriteFault h p = absurd p
+ends-printed old new before after format name text NoMemory h p = absurd p
+
+pub ends-bare : (old new : FileState) (sink : SinkState) (format : Format) (name : List ℕ) (cause : Cause) → Answers old new format name (Err cause) → Ends old new sink sink format name cause
+ends-bare old new sink format name (Unread f) h = (h.0, refl, h.1)
+ends-bare old new sink format name ReadFault h = (h, refl)
+ends-bare old new sink format name NoMemory h = (h, refl)
+ends-bare old new sink format name Done h = absurd h
+ends-bare old new sink format name (Refused f) h = absurd h
+ends-bare old new sink format name Usage h = absurd h
+ends-bare old new sink format name WriteFault h = absurd h
+ends-bare old new sink format name OutFault h = absurd h

@@ -1,0 +1,10 @@
+use Rattle.ap_run.proofs.Showing.{answers-refused, answers-made}
+use Rattle.ap_run.proofs.show.text_of.Goals as goal
+
+pub returns-in-Ok : goal.returns-in-Ok
+returns-in-Ok g c =
+    answers-made (g.F.Files.state c.args.files.now) (g.F.Files.state c.plan_of.new.files) c.args.format.now c.args.name.now c.in-Ok.planned c.made_of.result c.in-Ok.ensures.plan c.made_of.ensures
+
+pub returns-in-Err : goal.returns-in-Err
+returns-in-Err g c =
+    answers-refused (g.F.Files.state c.args.files.now) (g.F.Files.state c.plan_of.new.files) c.args.format.now c.args.name.now c.in-Err.cause c.in-Err.ensures.plan

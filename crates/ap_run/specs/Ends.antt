@@ -1,0 +1,112 @@
+-- How a run ends.
+use Rattle.std.specs.Prelude.{◌≡◌, ℕ, ◌^◌, ◌-◌, ◌<◌, ◌⊎◌, List, Result, Ok, Err, Some, None, Option}
+use Rattle.ap_files.specs.Files.{FileMap, FileState, ForFile}
+use Rattle.ap_check.specs.declared.fault.Fault.{Fault}
+use Rattle.ap_check.specs.declared.options.Options.{Options}
+use Rattle.ap_check.specs.Rules.{first_fault_of}
+use Rattle.ap_check.specs.Both.{first_fault_of_both}
+use Rattle.ap_link.specs.declared.end.LinkEnd.{LinkEnd}
+use Rattle.ap_link.specs.declared.end.LinkEnd.TheVariants as end
+use Rattle.ap_link.specs.FileAnswers.{LinksFiles}
+use Rattle.ap_files.specs.Sinks.{SinkState}
+use Rattle.ap_run.specs.Words.{LinkNames, names_in, options_of}
+use Rattle.ap_run.specs.Options.{View, view_in}
+use Rattle.ap_run.specs.Formats.{text_in}
+use Rattle.ap_run.specs.Shows.{Ends}
+use Rattle.ap_run.specs.Dumps.{DumpEnds, dumped_in}
+use Rattle.ap_run.specs.declared.format.Format.{Format}
+use Rattle.ap_run.specs.declared.end.ReadingFault.{ReadingFault}
+use Rattle.ap_run.specs.declared.end.Cause.{Cause}
+use Rattle.ap_run.specs.declared.end.Cause.TheVariants.{Done, Refused, Unread, Usage, ReadFault, WriteFault, OutFault, NoMemory}
+
+abbrev pub status_of : Cause → ℕ
+status_of Done = 0
+status_of (Refused fault) = 1
+status_of (Unread fault) = 1
+status_of Usage = 2
+status_of ReadFault = 3
+status_of WriteFault = 4
+status_of OutFault = 4
+status_of NoMemory = 5
+
+-- how a link of files answers, by what its words name
+abbrev pub LinkAnswered : FileState → FileState → LinkNames → Result ℕ LinkEnd → Type 0
+LinkAnswered old new names answer = LinksFiles (options_of names) old new names.first names.second names.out answer
+
+-- how a link ends, by its cause
+abbrev pub LinkEnds : FileState → FileState → LinkNames → Cause → Type 0
+LinkEnds old new names Done = (size : ℕ) × LinkAnswered old new names (Ok size)
+LinkEnds old new names (Refused fault) = LinkAnswered old new names (Err (end.Rule fault))
+LinkEnds old new names (Unread fault) = ⊥
+LinkEnds old new names Usage = ⊥
+LinkEnds old new names ReadFault = LinkAnswered old new names (Err end.ReadFault)
+LinkEnds old new names WriteFault = LinkAnswered old new names (Err end.WriteFault)
+LinkEnds old new names OutFault = ⊥
+LinkEnds old new names NoMemory = new ≡ old
+
+-- how a view ends, without an image file or with one
+abbrev pub ViewEnds : FileState → FileState → SinkState → SinkState → Format → List ℕ → Option (List ℕ) → Cause → Type 0
+ViewEnds old new before after format file None cause = Ends old new before after format file cause
+ViewEnds old new before after format file (Some image) cause = DumpEnds old new before after format file image cause
+
+-- how a run ends, by the link or the view that its words are; a link prints nothing
+abbrev pub EndsBy : FileState → FileState → SinkState → SinkState → Option LinkNames → Option View → Cause → Type 0
+EndsBy old new before after (Some names) view cause = LinkEnds old new names cause × (after ≡ before)
+EndsBy old new before after None (Some view) cause = ViewEnds old new before after view.format view.file view.dump cause
+EndsBy old new before after None None cause = (cause ≡ Usage) × (new ≡ old) × (after ≡ before)
+
+abbrev pub RunEnds : FileState → FileState → SinkState → SinkState → List (List ℕ) → Cause → Type 0
+RunEnds old new before after words cause = EndsBy old new before after (names_in words) (view_in words) cause
+
+-- a count stands, and is below its last value
+abbrev pub Stands : ℕ → ℕ → Type 0
+Stands before now = (now ≡ before) × (before < 2 ^ 64 - 1)
+
+-- where files are told and the second input is there, where there is one, its bytes have a property
+abbrev pub ForSecond : Option FileMap → Option (List ℕ) → (Option (List ℕ) → Type 0) → Type 0
+ForSecond kept None P = P None
+ForSecond kept (Some name) P = ForFile kept name (λ b. P (Some b))
+
+-- a link is refused for this fault, where there is one
+abbrev pub RefusedFor : Option Fault → Cause → Type 0
+RefusedFor first cause = (fault : Fault) → first ≡ Some fault → (cause ≡ Refused fault) ⊎ (cause ≡ NoMemory)
+
+-- it is done where there is none
+abbrev pub DoneWithout : Option Fault → Cause → Type 0
+DoneWithout first cause = first ≡ None → (cause ≡ Done) ⊎ (cause ≡ NoMemory)
+
+-- what is said of a link of these inputs that meets no fault of the files
+abbrev pub BothComplete : Options → Cause → List ℕ → Option (List ℕ) → Type 0
+BothComplete options cause a b = DoneWithout (first_fault_of_both options a b) cause × RefusedFor (first_fault_of_both options a b) cause
+
+-- Where the inputs are told and no read or write failed, a link is done exactly where all rules hold, and else refused for the
+-- first that doesn't, unless memory runs out. Where input 1 breaks a rule, input 2 needn't be there.
+abbrev pub LinkComplete : FileState → FileState → LinkNames → Cause → Type 0
+LinkComplete old new names cause =
+    Stands old.read_faults new.read_faults → Stands old.write_faults new.write_faults → ForFile old.kept names.first (λ a.
+    RefusedFor (first_fault_of 1 a) cause × ForSecond old.kept names.second (BothComplete (options_of names) cause a))
+
+-- an answer comes exactly where a file is refused, and the work is done where it isn't and no print failed
+abbrev pub AnswersBy : {T : Type 0} → SinkState → SinkState → Cause → Result T ReadingFault → Type 0
+AnswersBy {T} before after cause answer =
+    ((fault : ReadingFault) → answer ≡ Err fault → (cause ≡ Unread fault) ⊎ (cause ≡ NoMemory))
+    × ((made : T) → answer ≡ Ok made → Stands before.faults after.faults → (cause ≡ Done) ⊎ (cause ≡ NoMemory))
+
+-- by the text, or by the text and the image file
+abbrev pub ViewAnswers : SinkState → SinkState → Cause → Format → Option (List ℕ) → List ℕ → Type 0
+ViewAnswers before after cause format None file = AnswersBy before after cause (text_in format file)
+ViewAnswers before after cause format (Some image) file = AnswersBy before after cause (dumped_in format file)
+
+-- Where the file is told and no read or write failed, a view is refused exactly where the format refuses the file, and done
+-- where it doesn't and no print failed, unless memory runs out.
+abbrev pub ViewComplete : FileState → FileState → SinkState → SinkState → View → Cause → Type 0
+ViewComplete old new before after view cause =
+    Stands old.read_faults new.read_faults → Stands old.write_faults new.write_faults → ForFile old.kept view.file (ViewAnswers before after cause view.format view.dump)
+
+abbrev pub CompleteBy : FileState → FileState → SinkState → SinkState → Option LinkNames → Option View → Cause → Type 0
+CompleteBy old new before after (Some names) view cause = LinkComplete old new names cause
+CompleteBy old new before after None (Some view) cause = ViewComplete old new before after view cause
+CompleteBy old new before after None None cause = Unit {0}
+
+abbrev pub IsComplete : FileState → FileState → SinkState → SinkState → List (List ℕ) → Cause → Type 0
+IsComplete old new before after words cause = CompleteBy old new before after (names_in words) (view_in words) cause

@@ -1,0 +1,62 @@
+-- The formats that files are read by, and what a file is by a format.
+use Rattle.std.specs.Prelude.{ℕ, ◌^◌, ◌==◌, ◌||◌, nat_lt, if◌then◌else◌, Bool, List, length, Result, Ok, Err}
+use Rattle.ap_elf.specs.declared.machine.Machine.{Machine}
+use Rattle.ap_elf.specs.declared.machine.Machine.TheVariants.{X64, A64}
+use Rattle.ap_elf.specs.Machines.{number_of}
+use Rattle.ap_elf.specs.declared.fault.ElfFault.{ElfFault}
+use Rattle.ap_loader.specs.declared.fault.ApeFault.{ApeFault}
+use Rattle.ap_fields.specs.Readings.{MemoryImage}
+use Rattle.ap_image.specs.Plans.{Mapping}
+use Rattle.ap_elf.specs.ElfReading.{elf_reading}
+use Rattle.ap_elfmap.specs.ElfPlans.{elf_plan}
+use Rattle.ap_loader.specs.ApeReading.{ape_reading, ape_plan}
+use Rattle.ap_run.specs.declared.end.ReadingFault.{ReadingFault}
+use Rattle.ap_run.specs.declared.end.ReadingFault.TheVariants as fault
+use Rattle.ap_run.specs.declared.format.Form.{Form}
+use Rattle.ap_run.specs.declared.format.Form.TheVariants.{Ape, Elf}
+use Rattle.ap_run.specs.declared.format.Format.{Format}
+use Rattle.ap_run.specs.PlanTexts.{plan_text}
+
+-- the pages of a machine
+abbrev pub has_page : Machine → ℕ → Bool
+has_page X64 page = page == 4096
+has_page A64 page = page == 4096 || page == 16384
+
+-- what a reading answers, as a run does
+abbrev pub by_ape : {T : Type 0} → Result T ApeFault → Result T ReadingFault
+by_ape (Ok answer) = Ok answer
+by_ape (Err f) = Err (fault.Ape f)
+
+abbrev pub by_elf : {T : Type 0} → Result T ElfFault → Result T ReadingFault
+by_elf (Ok answer) = Ok answer
+by_elf (Err f) = Err (fault.Elf f)
+
+abbrev pub ape_plan_in : Machine → ℕ → List ℕ → Result Mapping ReadingFault
+ape_plan_in machine page file = by_ape (ape_plan (number_of machine) page file)
+
+abbrev pub elf_plan_in : Machine → ℕ → List ℕ → Result Mapping ReadingFault
+elf_plan_in machine page file = by_elf (elf_plan (number_of machine) page file)
+
+abbrev pub plan_by_form : Form → Machine → ℕ → List ℕ → Result Mapping ReadingFault
+plan_by_form Ape machine page file = ape_plan_in machine page file
+plan_by_form Elf machine page file = elf_plan_in machine page file
+
+-- the plan of a file by a format, or the refusal
+unfoldable pub plan_in : Format → List ℕ → Result Mapping ReadingFault
+plan_in format file = plan_by_form format.form format.machine format.page file
+
+abbrev pub reading_by_form : Form → Machine → ℕ → List ℕ → Result MemoryImage ReadingFault
+reading_by_form Ape machine page file = by_ape (ape_reading (number_of machine) page file)
+reading_by_form Elf machine page file = by_elf (elf_reading (number_of machine) page file)
+
+-- what a file puts into memory by a format's definition, address by address, or the refusal
+unfoldable pub reading_in : Format → List ℕ → Result MemoryImage ReadingFault
+reading_in format file = reading_by_form format.form format.machine format.page file
+
+abbrev pub text_of : Result Mapping ReadingFault → Result (List ℕ) ReadingFault
+text_of (Ok m) = Ok (plan_text m)
+text_of (Err f) = Err f
+
+-- the text that shows a file by a format, or the refusal; a file longer than 2^30 bytes isn't read
+unfoldable pub text_in : Format → List ℕ → Result (List ℕ) ReadingFault
+text_in format file = if nat_lt (2 ^ 30) (length file) then Err (fault.Large (length file)) else text_of (plan_in format file)

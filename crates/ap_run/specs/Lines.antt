@@ -1,0 +1,68 @@
+-- The line on standard error for each cause. Numbers are in decimal.
+use Rattle.std.specs.Prelude.{ℕ, List, ◌++◌, codes, decimal, Option, Some, None}
+use Rattle.ap_check.specs.declared.fault.Fault.{Fault}
+use Rattle.ap_elf.specs.declared.fault.ElfCause.{ElfCause}
+use Rattle.ap_elf.specs.declared.fault.ElfCause.TheVariants as elf
+use Rattle.ap_elf.specs.declared.fault.ElfFault.{ElfFault}
+use Rattle.ap_loader.specs.declared.fault.ApeFault.{ApeFault}
+use Rattle.ap_loader.specs.declared.fault.ApeFault.TheVariants as ape
+use Rattle.ap_run.specs.declared.end.ReadingFault.{ReadingFault}
+use Rattle.ap_run.specs.declared.end.ReadingFault.TheVariants.{Large, Wide, Elf, Ape}
+use Rattle.ap_run.specs.declared.end.Cause.{Cause}
+use Rattle.ap_run.specs.declared.end.Cause.TheVariants.{Done, Refused, Unread, Usage, ReadFault, WriteFault, OutFault, NoMemory}
+
+-- a rule that is broken
+unfoldable pub rule_line : Fault → List ℕ
+rule_line f =
+    codes "apetool: rule " ++ (decimal f.rule ++ (codes " input " ++ (decimal f.input
+    ++ (codes " item " ++ (decimal f.item ++ (codes " value " ++ (decimal f.value ++ codes "\n")))))))
+
+-- a fault of a form: its name, its item and its value
+unfoldable pub fault_line : List ℕ → List ℕ → ℕ → ℕ → List ℕ
+fault_line form name item value =
+    codes "apetool: " ++ (form ++ (codes " " ++ (name
+    ++ (codes " item " ++ (decimal item ++ (codes " value " ++ (decimal value ++ codes "\n")))))))
+
+abbrev pub cause_name : ElfCause → List ℕ
+cause_name elf.Short = codes "Short"
+cause_name elf.Magic = codes "Magic"
+cause_name elf.Class = codes "Class"
+cause_name elf.Endian = codes "Endian"
+cause_name elf.Version = codes "Version"
+cause_name elf.FileType = codes "FileType"
+cause_name elf.Machine = codes "Machine"
+cause_name elf.TableSize = codes "TableSize"
+cause_name elf.TableCount = codes "TableCount"
+cause_name elf.TableRange = codes "TableRange"
+cause_name elf.Dynamic = codes "Dynamic"
+cause_name elf.Sizes = codes "Sizes"
+cause_name elf.Range = codes "Range"
+cause_name elf.Top = codes "Top"
+cause_name elf.Congruent = codes "Congruent"
+cause_name elf.Order = codes "Order"
+cause_name elf.NoLoad = codes "NoLoad"
+
+abbrev pub elf_line : ElfFault → List ℕ
+elf_line f = fault_line (codes "elf") (cause_name f.cause) f.item f.value
+
+abbrev pub ape_line : ApeFault → List ℕ
+ape_line ape.NoMagic = fault_line (codes "ape") (codes "NoMagic") 0 0
+ape_line ape.NoStatement = fault_line (codes "ape") (codes "NoStatement") 0 0
+ape_line (ape.Elf f) = elf_line f
+
+abbrev pub reading_line : ReadingFault → List ℕ
+reading_line (Large size) = fault_line (codes "file") (codes "Large") 0 size
+reading_line (Wide total) = fault_line (codes "image") (codes "Wide") 0 total
+reading_line (Elf f) = elf_line f
+reading_line (Ape f) = ape_line f
+
+-- the line of a cause, but for a command that did its work
+abbrev pub line_of : Cause → Option (List ℕ)
+line_of Done = None
+line_of (Refused f) = Some (rule_line f)
+line_of (Unread f) = Some (reading_line f)
+line_of Usage = Some (codes "apetool: usage: apetool link|load|map|script|assimilate|inspect|trial ...\n")
+line_of ReadFault = Some (codes "apetool: cannot read\n")
+line_of WriteFault = Some (codes "apetool: cannot write\n")
+line_of OutFault = Some (codes "apetool: cannot print\n")
+line_of NoMemory = Some (codes "apetool: no memory\n")

@@ -1,0 +1,105 @@
+// The formats that files are read by.
+ghost use Rattle.std.specs.Prelude.{◌≡◌, IfOk, IsTrue};
+ghost use Rattle.ap_files.specs.Reads.{HasSize, Reads};
+ghost use Rattle.ap_elf.specs.Machines.{IsPage};
+ghost use Rattle.ap_image.specs.Plans.{AreBacked};
+ghost use Rattle.ap_run.specs.Formats as spec;
+ghost use Rattle.ap_run.specs.Formats.{plan_in};
+
+use crate::end::ReadingFault;
+use ap_check::Machine;
+use ap_elfmap::ElfReading;
+use ap_files::{Failed, Files};
+use ap_image::Plan;
+use ap_loader::ApeReading;
+
+/// A form of program files.
+#[derive(Clone, Copy, Debug, PartialEq, Eq)]
+pub enum Form {
+    /// Actually Portable Executable.
+    Ape,
+    /// ELF.
+    Elf,
+}
+
+/// A form, for a machine and one of its page sizes.
+#[derive(Clone, Copy, Debug, PartialEq, Eq)]
+pub struct Format {
+    pub form: Form,
+    pub machine: Machine,
+    /// The page size in bytes.
+    pub page: u64,
+}
+
+impl Format {
+    /// The plan of a file by the format's reading, by the file's name, or the reading's first refusal. `size` is the file's
+    /// length.
+    ///
+    /// `Failed`: a read failed.
+    #[tactic(auto, unfolding(crate::specs::Formats::plan_in))]
+    pub fn plan_in<F: Files>(
+        &self,
+        files: &mut F,
+        name: &str,
+        size: u64,
+    ) -> Result<Result<Plan, ReadingFault>, Failed>
+        requires page { IsPage self.now.machine self.now.page }
+        requires size { HasSize (F.state files.old).kept name.now size }
+        ensures read { Reads (F.state files.old) (F.state files.new) name.now (λ b plan. plan ≡ plan_in self.now b) result }
+        ensures backed { IfOk result (λ plan. IfOk plan (λ p. AreBacked p.regions size)) }
+    {
+        match self.form {
+            Form::Ape => ape_plan(self.machine, self.page, files, name, size),
+            Form::Elf => elf_plan(self.machine, self.page, files, name, size),
+        }
+    }
+}
+
+fn ape_plan<F: Files>(
+    machine: Machine,
+    page: u64,
+    files: &mut F,
+    name: &str,
+    size: u64,
+) -> Result<Result<Plan, ReadingFault>, Failed>
+    requires page { IsPage machine page }
+    requires size { HasSize (F.state files.old).kept name.now size }
+    ensures read { Reads (F.state files.old) (F.state files.new) name.now (λ b plan. plan ≡ spec.ape_plan_in machine page b) result }
+    ensures backed { IfOk result (λ plan. IfOk plan (λ p. AreBacked p.regions size)) }
+{
+    let reading = ApeReading { machine, page };
+    match reading.read_in(files, name, size) {
+        Ok(plan) => Ok(plan.map_err(ReadingFault::Ape)),
+        Err(failed) => Err(failed),
+    }
+}
+
+fn elf_plan<F: Files>(
+    machine: Machine,
+    page: u64,
+    files: &mut F,
+    name: &str,
+    size: u64,
+) -> Result<Result<Plan, ReadingFault>, Failed>
+    requires page { IsPage machine page }
+    requires size { HasSize (F.state files.old).kept name.now size }
+    ensures read { Reads (F.state files.old) (F.state files.new) name.now (λ b plan. plan ≡ spec.elf_plan_in machine page b) result }
+    ensures backed { IfOk result (λ plan. IfOk plan (λ p. AreBacked p.regions size)) }
+{
+    let reading = ElfReading { machine, page };
+    match reading.read_in(files, name, size) {
+        Ok(plan) => Ok(plan.map_err(ReadingFault::Elf)),
+        Err(failed) => Err(failed),
+    }
+}
+
+/// Whether a machine has pages of so many bytes: 4096, or also 16384 for AArch64.
+pub fn has_page(machine: Machine, page: u64) -> bool
+    ensures test { result ≡ spec.has_page machine page }
+    ensures page { IsTrue result → IsPage machine page }
+{
+    match machine {
+        Machine::X64 => page == 4096,
+        Machine::A64 => page == 4096 || page == 16384,
+    }
+}

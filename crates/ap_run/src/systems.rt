@@ -1,0 +1,36 @@
+// The systems that a list of names chooses.
+ghost use Rattle.std.specs.Prelude.{◌≡◌, ◌<◌, IfSome};
+ghost use Rattle.ap_run.specs.Systems as spec;
+
+use ap_check::Systems;
+use bitflags::Flags;
+
+/// The systems of a list of names that are joined by commas, each of them `linux`, `freebsd` or `netbsd`. There is one name
+/// at least, and a name may stand more than once.
+#[tactic(auto, unfolding(crate::specs::Systems::systems_in))]
+pub fn systems_in(list: &str) -> Option<Systems>
+    ensures systems { result ≡ spec.systems_in list.now }
+    ensures built { IfSome result (λ s. s.0 < 8) }
+{
+    let Some((name, rest)) = list.split_once(',') else {
+        return system_named(list);
+    };
+    let system = system_named(name)?;
+    let others = systems_in(rest)?;
+    Some(system.union(others))
+}
+
+fn system_named(name: &str) -> Option<Systems>
+    ensures system { result ≡ spec.system_named name.now }
+    ensures built { IfSome result (λ s. s.0 < 8) }
+{
+    if name == "linux" {
+        Some(Systems::LINUX)
+    } else if name == "freebsd" {
+        Some(Systems::FREEBSD)
+    } else if name == "netbsd" {
+        Some(Systems::NETBSD)
+    } else {
+        None
+    }
+}
