@@ -3,16 +3,18 @@ ghost use Rattle.std.specs.Prelude.{◌≡◌, ◌<◌, drop, length, slice_inde
 ghost use Rattle.ap_octal.specs.OctalText.{IsPlain, EndsDigits};
 ghost use Rattle.ap_octal.specs.OctalSteps.{Begins, HasDigit, IsNoOctal, Spells};
 
+use crate::types::HEADER_SIZE;
+
 /// The first 64 of the bytes that the text stands for, and how many these are. None exactly where it isn't octal text.
-pub(crate) fn octal_bytes(text: &[u8]) -> Option<([u8; 64], usize)>
+pub(crate) fn octal_bytes(text: &[u8]) -> Option<([u8; HEADER_SIZE], usize)>
     ensures { MatchOption result (IsNoOctal text.now) (λ p. Spells text.now p.0 p.1) }
 {
-    let mut first = [0; 64];
+    let mut first = [0; HEADER_SIZE];
     let mut count = 0;
     let mut rest = text;
     while !rest.is_empty() {
         let (byte, width) = next_byte(rest)?;
-        if count < 64 {
+        if count < HEADER_SIZE {
             first[count] = byte;
         }
         count += 1;

@@ -5,10 +5,12 @@ ghost use Rattle.ap_octal.specs.OctalText.{IsOctal};
 ghost use Rattle.ap_octal.specs.Statement as statement;
 ghost use Rattle.ap_octal.specs.Statement.{octal_of, octals_of, statement_of};
 
-/// Writes from `at` on the canonical statement, which prints the header, and answers its length: 265 bytes at most, for
-/// which there is room. All other bytes stay.
-pub fn write_statement(out: &mut [u8], at: usize, header: &[u8; 64]) -> usize
-    requires { at + 265 ≤ length out.old }
+use crate::types::{HEADER_SIZE, MOST_STATEMENT};
+
+/// Writes from `at` on the canonical statement, which prints the header, and answers its length: [`MOST_STATEMENT`] at
+/// most, for which there is room. All other bytes stay.
+pub fn write_statement(out: &mut [u8], at: usize, header: &[u8; HEADER_SIZE]) -> usize
+    requires { at + MOST_STATEMENT ≤ length out.old }
     ensures count { result ≡ length (statement_of header.now) }
     ensures text { out.new ≡ patched out.old at (statement_of header.now) }
     ensures octal { IsOctal (octals_of header.now) header.now }
