@@ -23,7 +23,7 @@ pub(crate) fn octal_bytes(text: &[u8]) -> Option<([u8; HEADER_SIZE], usize)>
     Some((first, count))
 }
 
-/// The byte that the text's front stands for, and the length of that front.
+// The byte that the text's front stands for, and the length of that front.
 fn next_byte(text: &[u8]) -> Option<(u8, usize)>
     requires { 0 < length text.now }
     ensures { MatchOption result (IsNoOctal text.now) (λ p. Begins text.now p.0 p.1) }
@@ -38,7 +38,7 @@ fn next_byte(text: &[u8]) -> Option<(u8, usize)>
     }
 }
 
-/// The byte that a backslash and the octal digits behind it, three at most, stand for, and the length of these.
+// The byte that a backslash and the octal digits behind it, three at most, stand for, and the length of these.
 fn escaped_byte(text: &[u8]) -> Option<(u8, usize)>
     requires some { 0 < length text.now }
     requires backslash { slice_index text.now 0 ≡ 92 }
@@ -59,14 +59,14 @@ fn escaped_byte(text: &[u8]) -> Option<(u8, usize)>
     }
 }
 
-/// Whether the byte stands for itself.
+// Whether the byte stands for itself.
 fn is_plain(byte: u8) -> bool
     ensures { IsTrue result ↔ IsPlain byte }
 {
     1 <= byte && byte <= 127 && byte != b'%' && byte != b'\'' && byte != b'\\'
 }
 
-/// The value of the octal digit at `at`, where one stands there.
+// The value of the octal digit at `at`, where one stands there.
 fn octal_digit(text: &[u8], at: usize) -> Option<u8>
     ensures { MatchOption result (EndsDigits (drop at text.now)) (λ d. HasDigit text.now at d) }
 {

@@ -22,7 +22,7 @@ pub fn write_statement(out: &mut [u8], at: usize, header: &[u8; HEADER_SIZE]) ->
     put_text(out, end, b"'") - at
 }
 
-/// Writes a text from `at` on, and answers the place behind it.
+// Writes a text from `at` on, and answers the place behind it.
 fn put_text(out: &mut [u8], at: usize, text: &[u8]) -> usize
     requires { at + length text.now ≤ length out.old }
     ensures end { result ≡ at + length text.now }
@@ -33,7 +33,7 @@ fn put_text(out: &mut [u8], at: usize, text: &[u8]) -> usize
     end
 }
 
-/// Writes the text of one byte from `at` on, and answers the place behind it.
+// Writes the text of one byte from `at` on, and answers the place behind it.
 fn put_octal(out: &mut [u8], at: usize, byte: u8) -> usize
     requires { at + 4 ≤ length out.old }
     ensures end { result ≡ at + length (octal_of byte) }
@@ -47,7 +47,7 @@ fn put_octal(out: &mut [u8], at: usize, byte: u8) -> usize
     }
 }
 
-/// Whether the byte is an ASCII letter.
+// Whether the byte is an ASCII letter.
 fn is_letter(byte: u8) -> bool
     ensures { result ≡ statement.is_letter byte }
 {
