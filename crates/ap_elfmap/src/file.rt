@@ -4,9 +4,8 @@ ghost use Rattle.ap_files.specs.Reads.{HasSize, Reads};
 ghost use Rattle.ap_fields.specs.Bytes.{over};
 ghost use Rattle.ap_elf.specs.declared.constants.TheConstants.{EHDR_SIZE, PHDR_SIZE, MOST_PHDRS};
 ghost use Rattle.ap_elf.specs.Fields.{header_of, entries_from, entries_of};
-ghost use Rattle.ap_elf.specs.Machines.{number_of};
+ghost use Rattle.ap_elf.specs.Machines.{number_of, IsPage};
 ghost use Rattle.ap_image.specs.Plans.{AreBacked};
-ghost use Rattle.ap_elf.specs.Machines.{IsPage};
 ghost use Rattle.ap_elfmap.specs.ElfPlans.{elf_plan, elf_plan_by};
 
 use crate::fault::fault;

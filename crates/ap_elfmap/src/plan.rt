@@ -6,9 +6,8 @@ ghost use Rattle.ap_elf.specs.declared.constants.TheConstants.{MOST_PHDRS};
 ghost use Rattle.ap_elf.specs.Fields.{loads_in};
 ghost use Rattle.ap_elf.specs.ElfReading.{refusal, header_rules, dynamic_rules, loads_rules};
 ghost use Rattle.ap_elf.specs.declared.fault.ElfCause.TheVariants as cause;
-ghost use Rattle.ap_elf.specs.Machines.{number_of};
+ghost use Rattle.ap_elf.specs.Machines.{number_of, IsPage};
 ghost use Rattle.ap_image.specs.Plans.{AreBacked};
-ghost use Rattle.ap_elf.specs.Machines.{IsPage};
 ghost use Rattle.ap_elfmap.specs.ElfPlans.{Checks, region_of, elf_plan_by};
 
 use crate::entries::check_dynamic;

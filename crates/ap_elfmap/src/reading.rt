@@ -4,10 +4,9 @@ ghost use Rattle.ap_fields.specs.Bytes.{over};
 ghost use Rattle.ap_fields.specs.Readings.{bytes_in};
 ghost use Rattle.ap_elf.specs.Fields.{header_of, entries_of};
 ghost use Rattle.ap_elf.specs.ElfReading.{elf_reading_by, elf_reading};
-ghost use Rattle.ap_elf.specs.Machines.{number_of};
+ghost use Rattle.ap_elf.specs.Machines.{number_of, IsPage};
 ghost use Rattle.ap_image.specs.Plans.{AreBacked};
 ghost use Rattle.ap_image.specs.Reading.{IsPlanOf};
-ghost use Rattle.ap_elf.specs.Machines.{IsPage};
 ghost use Rattle.ap_elfmap.specs.ElfPlans.{Looks, elf_plan, elf_plan_by};
 ghost use Rattle.ap_elfmap.specs.Laws.{cells-by, frame-elf, page-granule};
 

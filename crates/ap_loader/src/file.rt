@@ -1,9 +1,8 @@
 // The reading of APE files by their names.
 ghost use Rattle.std.specs.Prelude.{◌≡◌, IfOk};
 ghost use Rattle.ap_files.specs.Reads.{HasSize, Reads};
-ghost use Rattle.ap_elf.specs.Machines.{number_of};
+ghost use Rattle.ap_elf.specs.Machines.{number_of, IsPage};
 ghost use Rattle.ap_image.specs.Plans.{AreBacked};
-ghost use Rattle.ap_elf.specs.Machines.{IsPage};
 ghost use Rattle.ap_loader.specs.ApeReading as spec;
 ghost use Rattle.ap_loader.specs.ApeReading.{ape_plan};
 

@@ -29,7 +29,7 @@ pub fn embedded(file: &[u8], machine: Machine) -> Option<(usize, [u8; EHDR_SIZE]
     None
 }
 
-/// The header that the statement at a place prints, where it is one for the machine.
+// The header that the statement at a place prints, where it is one for the machine.
 fn header_at(file: &[u8], at: usize, machine: Machine) -> Option<[u8; EHDR_SIZE]>
     requires { Opens file.now at }
     ensures { result ≡ spec.header_at (number_of machine) (take WINDOW file.now) at }
@@ -42,7 +42,7 @@ fn header_at(file: &[u8], at: usize, machine: Machine) -> Option<[u8; EHDR_SIZE]
     }
 }
 
-/// Whether bytes begin as an ELF header of 64 bits, little endian, for the machine.
+// Whether bytes begin as an ELF header of 64 bits, little endian, for the machine.
 fn is_header_for(bytes: &[u8; EHDR_SIZE], machine: Machine) -> bool
     ensures { result ≡ spec.begins_header (number_of machine) bytes.now }
 {

@@ -1,7 +1,6 @@
 // The reading of APE files.
 ghost use Rattle.std.specs.Prelude.{◌≡◌};
-ghost use Rattle.ap_elf.specs.Machines.{number_of};
-ghost use Rattle.ap_elf.specs.Machines.{IsPage};
+ghost use Rattle.ap_elf.specs.Machines.{number_of, IsPage};
 ghost use Rattle.ap_elfmap.specs.Laws.{page-granule};
 ghost use Rattle.ap_loader.specs.ApeReading as spec;
 ghost use Rattle.ap_loader.specs.ApeReading.{ape_reading, ape_plan, Looks};
