@@ -58,8 +58,8 @@ fn kept(loads: &[Entry]) -> ArrayVec<Entry, MOST_LOADS>
     ensures { result.items ≡ loads.now }
 {
     let mut kept = ArrayVec::new();
-    for p in loads {
-        kept.push(*p);
+    match kept.try_extend_from_slice(loads) {
+        Ok(()) => kept,
+        Err(_) => unreachable!(),
     }
-    kept
 }

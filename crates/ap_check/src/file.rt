@@ -23,10 +23,8 @@ pub fn check_input_in<F: Files>(files: &mut F, name: &str, number: u8) -> Result
     ensures size { IfOk result (λ i. HasSize (F.state files.new).kept name.now i.size) }
     ensures number { IfOk result (λ i. i.number ≡ number) }
 {
-    match check_bare_in(files, name, number) {
-        Ok(bare) => check_symbols_in(files, name, number, bare),
-        Err(end) => Err(end),
-    }
+    let bare = check_bare_in(files, name, number)?;
+    check_symbols_in(files, name, number, bare)
 }
 
 // Rule 22 of an input that keeps those before it.
@@ -43,16 +41,13 @@ fn check_symbols_in<F: Files>(
     ensures size { IfOk result (λ i. HasSize (F.state files.new).kept name.now i.size) }
     ensures number { IfOk result (λ i. i.number ≡ number) }
 {
-    let Ok(found) = found_in(files, name, &bare) else {
-        return Err(CheckEnd::ReadFault);
-    };
-    match found {
+    match found_in(files, name, &bare)? {
         Located::Part { part } => Err(CheckEnd::Rule(broken(number, 22, 0, part as u64))),
         Located::Missing => Ok(bare.input),
-        Located::At(t) => match symbols_in(files, name, &t) {
-            Ok(symbols) => Ok(with_symbols(bare.input, symbols)),
-            Err(_) => Err(CheckEnd::ReadFault),
-        },
+        Located::At(t) => {
+            let symbols = symbols_in(files, name, &t)?;
+            Ok(with_symbols(bare.input, symbols))
+        }
     }
 }
 

@@ -69,7 +69,7 @@ pub(crate) fn found(size: u64, t: &Section, strings: Option<Section>) -> Located
     })
 }
 
-/// Whether `length` bytes from `at` on lie in a file of `size` bytes.
+// Whether `length` bytes from `at` on lie in a file of `size` bytes.
 fn fits(at: u64, length: u64, size: u64) -> bool
     ensures { result ≡ nat_le (at + length) size }
 {

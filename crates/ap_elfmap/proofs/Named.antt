@@ -1,11 +1,8 @@
 -- The plan of a file of which the header and the program header table are read by the file's name.
-use Rattle.std.proofs.Common.{◌≡◌, ℕ, ◌+◌, ◌*◌, ◌<◌, ◌≤◌, min, List, [], ◌∷◌, ◌++◌, length, take, map, nat_lt, Option, Some, Result, Ok, Err, sym, ap, ◌∙◌, subst, arith}
+use Rattle.std.proofs.Common.{◌≡◌, ℕ, ◌+◌, ◌*◌, ◌<◌, ◌≤◌, min, List, [], ◌∷◌, ◌++◌, length, take, map, nat_lt, Option, Some, Result, Err, sym, ap, ◌∙◌, arith}
 use Rattle.ap_fields.specs.Bytes.{over}
 use Rattle.ap_fields.specs.FirstFault.{Rules, first_fault}
 use Rattle.ap_fields.proofs.FirstFaults.{some-append}
-use Rattle.ap_files.specs.Files.{FileState, ForFile}
-use Rattle.ap_files.specs.Reads.{ReadFails, Reads}
-use Rattle.ap_files.specs.declared.failure.Failed.{Failed}
 use Rattle.ap_elf.specs.declared.types.Header.{Header}
 use Rattle.ap_elf.specs.declared.types.Entry.{Entry}
 use Rattle.ap_elf.specs.declared.fault.ElfFault.{ElfFault}
@@ -15,14 +12,9 @@ use Rattle.ap_elf.specs.ElfReading.{refusal, header_rules, dynamic_rules, loads_
 use Rattle.ap_elf.proofs.Alike.{entries_from-same}
 use Rattle.ap_image.specs.Plans.{Mapping}
 use Rattle.ap_image.specs.Reading.{mapping_unless}
+use Rattle.ap_elfmap.specs.declared.file.TheConstants.{FRONT}
 use Rattle.ap_elfmap.specs.ElfPlans.{region_of, elf_plan_by}
 use Rattle.ap_elfmap.proofs.Fronts.{header-over, over-front, over-own}
-
--- what is read behind a read that changed nothing, said otherwise of the file that is told
-pub reads-behind : {T : Type 0} {P Q : List ℕ → T → Type 0} (old mid new : FileState) (name : List ℕ) (r : Result T Failed) → mid ≡ old → ForFile old.kept name (λ b. (v : T) → P b v → Q b v)
-    → Reads mid new name P r → Reads old new name Q r
-reads-behind old mid new name (Ok v) same so h = (h.0 ∙ same, λ m b told at. so m b told at v (h.1 m b (ap (λ (s : FileState). s.kept) same ∙ told) at))
-reads-behind old mid new name (Err failed) same so h = subst (λ s. ReadFails s new) same h
 
 -- a header that breaks its rules decides
 pub refused-by : (machine page len : ℕ) (h : Header) (entries : List Entry) (f : ElfFault) → first_fault (header_rules machine len h) ≡ Some f → Err f ≡ elf_plan_by machine page len h entries
@@ -49,7 +41,7 @@ planned-named machine page size h entries first b plan is header long sized tabl
     ∙ ap (λ (x : Header). elf_plan_by machine page (length b) x (entries_from (over b first) x.e_phoff x.e_phnum)) (header ∙ sym (header-over b first long))
 
 -- a table that begins in the bytes that are replaced, in the front that was read
-pub front-named : (b buf front first : List ℕ) (at n count : ℕ) → count ≡ min (length b) 3648 → buf ≡ take count b → front ≡ over buf first → at < 64 → n ≤ 64 → at + 56 * n ≤ length b
+pub front-named : (b buf front first : List ℕ) (at n count : ℕ) → count ≡ min (length b) FRONT → buf ≡ take count b → front ≡ over buf first → at < 64 → n ≤ 64 → at + 56 * n ≤ length b
     → entries_from front at n ≡ entries_from (over b first) at n
 front-named b buf front first at n count counted read replaced low few fits =
     ap (λ l. entries_from l at n) (replaced ∙ ap (λ l. over l first) read)

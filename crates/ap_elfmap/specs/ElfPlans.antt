@@ -1,8 +1,9 @@
 -- The plan by which an ELF file is mapped: a region for each load, of the pages that the load is in (System V gABI, "Program
 -- Loading"), and the entry.
-use Rattle.std.specs.Prelude.{◌≡◌, ◌⊎◌, ℕ, ◌+◌, ◌*◌, ◌-◌, ◌%◌, ◌^◌, ◌<◌, ◌≤◌, ◌==◌, nat_lt, min, if◌then◌else◌, List, length, map, Some, None, Result, MatchResult}
+use Rattle.std.specs.Prelude.{◌≡◌, ◌⊎◌, ℕ, ◌+◌, ◌*◌, ◌-◌, ◌%◌, ◌<◌, ◌≤◌, ◌==◌, nat_lt, min, if◌then◌else◌, List, length, map, Some, None, Result, MatchResult}
 use Rattle.ap_fields.specs.FirstFault.{Rules, first_fault}
 use Rattle.ap_fields.specs.Granules.{floor_of, ceil_of}
+use Rattle.ap_elf.specs.declared.constants.TheConstants.{EHDR_SIZE, PHDR_SIZE, ADDRESS_TOP}
 use Rattle.ap_elf.specs.declared.types.Header.{Header}
 use Rattle.ap_elf.specs.declared.types.Entry.{Entry}
 use Rattle.ap_elf.specs.declared.fault.ElfFault.{ElfFault}
@@ -53,7 +54,7 @@ elf_plan machine page b = elf_plan_by machine page (length b) (header_of b) (ent
 
 -- the places that the reading looks at: the header and the program header table
 abbrev pub Looks : List ℕ → ℕ → Type 0
-Looks b k = (k < 64) ⊎ (((header_of b).e_phoff ≤ k) × (k < (header_of b).e_phoff + 56 * (header_of b).e_phnum))
+Looks b k = (k < EHDR_SIZE) ⊎ (((header_of b).e_phoff ≤ k) × (k < (header_of b).e_phoff + PHDR_SIZE * (header_of b).e_phnum))
 
 -- a check answers by its rules: Ok where all hold, else the first fault
 abbrev pub Checks : {T : Type 0} → Result T ElfFault → Rules ElfFault → Type 0
@@ -63,5 +64,5 @@ Checks result rules = MatchResult result (λ _. first_fault rules ≡ None) (λ 
 pub record IsLoad (page len : ℕ) (p : Entry) : Type 0 where
   pub sizes : p.filesz ≤ p.memsz
   pub part : 0 < p.filesz → p.offset + p.filesz ≤ len
-  pub top : p.vaddr + p.memsz ≤ 2 ^ 47
+  pub top : p.vaddr + p.memsz ≤ ADDRESS_TOP
   pub congruent : 0 < p.filesz → p.offset % page ≡ p.vaddr % page

@@ -6,6 +6,7 @@ use Rattle.ap_fields.specs.FirstFault.{Rules, first_fault}
 use Rattle.ap_fields.specs.Granules.{IsGranule, floor_of, ceil_of}
 use Rattle.ap_fields.specs.Readings.{Cell, MemoryImage, image_unless, bytes_in}
 use Rattle.ap_fields.proofs.FirstFaults.{append-none}
+use Rattle.ap_fields.proofs.Granules.{granule_pos, ceil_of-least}
 use Rattle.ap_elf.specs.declared.types.Header.{Header}
 use Rattle.ap_elf.specs.declared.types.Entry.{Entry}
 use Rattle.ap_elf.specs.declared.fault.ElfFault.{ElfFault}
@@ -26,18 +27,12 @@ pub page-granule : (m : Machine) (page : ℕ) → IsPage m page → IsGranule pa
 page-granule X64 page is = inl is
 page-granule A64 page is = is
 
-pub page-positive : (page : ℕ) → IsGranule page → 1 ≤ page
-page-positive page is = elim is as (λ _. 1 ≤ page) [ inl e ↦ omega arith | inr e ↦ omega arith ]
-
--- rounded up, an address stays below the top, and is no lower
+-- rounded up, an address stays below the top
 pub ceil-top : (page a : ℕ) → IsGranule page → a ≤ 2 ^ 47 → ceil_of a page ≤ 2 ^ 47
 ceil-top page a is h = elim is as (λ _. ceil_of a page ≤ 2 ^ 47) [
   | inl e ↦ (let P : ℕ → Type 0 = λ p. ceil_of a p ≤ 2 ^ 47 in let here : ceil_of a 4096 ≤ 2 ^ 47 = grind (arith, nat_tests) in subst P (sym e) here)
   | inr e ↦ (let P : ℕ → Type 0 = λ p. ceil_of a p ≤ 2 ^ 47 in let here : ceil_of a 16384 ≤ 2 ^ 47 = grind (arith, nat_tests) in subst P (sym e) here)
 ]
-
-pub ceil-above : (a page : ℕ) → IsGranule page → a ≤ ceil_of a page
-ceil-above a page is = grind (arith, nat_tests)
 
 -- what the rules of a load say
 pub load-from : (page len k low : ℕ) (p : Entry) → first_fault (load_rules page len k low p) ≡ None → IsLoad page len p × (low ≤ start_of page p)
@@ -56,12 +51,12 @@ skew-below : (page a b : ℕ) → 1 ≤ page → a % page ≡ b % page → b % p
 skew-below page a b p h = let e : a % page ≤ a = omega arith in omega arith
 
 pub skew-offset : (page len : ℕ) (p : Entry) → IsGranule page → IsLoad page len p → 0 < p.filesz → p.vaddr % page ≤ p.offset
-skew-offset page len p is load some = skew-below page p.offset p.vaddr (page-positive page is) (load.congruent some)
+skew-offset page len p is load some = skew-below page p.offset p.vaddr (granule_pos page is) (load.congruent some)
 
 pub start-below : (page : ℕ) (p : Entry) → IsGranule page → start_of page p ≤ stop_of page p
 start-below page p is =
-    let above : p.vaddr + p.memsz ≤ ceil_of (p.vaddr + p.memsz) page = ceil-above (p.vaddr + p.memsz) page is in
-    let positive : 1 ≤ page = page-positive page is in
+    let above : p.vaddr + p.memsz ≤ ceil_of (p.vaddr + p.memsz) page = ceil_of-least (p.vaddr + p.memsz) page is in
+    let positive : 1 ≤ page = granule_pos page is in
     omega arith
 
 -- the numbers of a region
@@ -90,9 +85,9 @@ record IsRegionOf (page len : ℕ) (p : Entry) (r : Region) : Type 0 where
 region-good : (page len : ℕ) (p : Entry) → IsGranule page → 0 < p.memsz → IsLoad page len p → IsRegionOf page len p (region_of page len p)
 unfolding region_of
 region-good page len p is maps load =
-    let above : p.vaddr + p.memsz ≤ ceil_of (p.vaddr + p.memsz) page = ceil-above (p.vaddr + p.memsz) page is in
+    let above : p.vaddr + p.memsz ≤ ceil_of (p.vaddr + p.memsz) page = ceil_of-least (p.vaddr + p.memsz) page is in
     let top : ceil_of (p.vaddr + p.memsz) page ≤ 2 ^ 47 = ceil-top page (p.vaddr + p.memsz) is load.top in
-    let positive : 1 ≤ page = page-positive page is in
+    let positive : 1 ≤ page = granule_pos page is in
     let least : p.vaddr % page ≤ p.vaddr = omega arith in
     let whole : floor_of p.vaddr page + p.vaddr % page ≡ p.vaddr = omega arith in
     let parts = region-is (floor_of p.vaddr page) (ceil_of (p.vaddr + p.memsz) page) (p.vaddr % page) p.vaddr p.filesz p.memsz p.offset len (region_of page len p)
@@ -149,8 +144,8 @@ region-byte : (page len : ℕ) (byte : ℕ → ℕ) (p : Entry) (a : ℕ) → Is
     → region_byte byte (region_of page len p) a ≡ page_byte len byte p a
 unfolding region_of
 region-byte page len byte p a is load low high =
-    let above : p.vaddr + p.memsz ≤ ceil_of (p.vaddr + p.memsz) page = ceil-above (p.vaddr + p.memsz) page is in
-    let positive : 1 ≤ page = page-positive page is in
+    let above : p.vaddr + p.memsz ≤ ceil_of (p.vaddr + p.memsz) page = ceil_of-least (p.vaddr + p.memsz) page is in
+    let positive : 1 ≤ page = granule_pos page is in
     let least : p.vaddr % page ≤ p.vaddr = omega arith in
     let whole : floor_of p.vaddr page + p.vaddr % page ≡ p.vaddr = omega arith in
     byte-same len byte (floor_of p.vaddr page) (ceil_of (p.vaddr + p.memsz) page) (p.vaddr % page) p.vaddr p.filesz p.memsz p.offset a _ _ _
@@ -253,4 +248,4 @@ frame-elf machine page f g len h =
     ∙ ap (λ (x : Header). elf_plan_by machine page (length g) x (entries_of f)) headers
     ∙ ap (elf_plan_by machine page (length g) (header_of g)) tables
 
-pub ruleset load_facts = (page-positive, ceil-top, ceil-above, skew-offset, start-below)
+pub ruleset load_facts = (granule_pos, ceil-top, ceil_of-least, skew-offset, start-below)

@@ -1,25 +1,28 @@
 // The loads: what is asked of them, and their regions.
-ghost use Rattle.std.specs.Prelude.{◌≡◌, ◌≤◌, ◌<◌, ◌+◌, ◌^◌, ◌%◌, ◌++◌, [], ◌∷◌, nat_lt, length, map, IfOk, OnOk};
+ghost use Rattle.std.specs.Prelude.{◌≡◌, ◌≤◌, ◌<◌, ◌+◌, ◌%◌, length, map, IfOk, OnOk};
 ghost use Rattle.ap_fields.specs.Granules.{IsGranule};
-ghost use Rattle.ap_elf.specs.Fields.{loads_in};
-ghost use Rattle.ap_elf.specs.ElfReading.{refusal, dynamic_rules, load_rules, loads_rules};
-ghost use Rattle.ap_elf.specs.declared.fault.ElfCause.TheVariants.{NoLoad};
+ghost use Rattle.ap_elf.specs.declared.constants.TheConstants.{MOST_PHDRS};
+ghost use Rattle.ap_elf.specs.ElfReading.{load_rules, loads_rules};
 ghost use Rattle.ap_elfmap.specs.ElfPlans as spec;
-ghost use Rattle.ap_elfmap.specs.ElfPlans.{Checks, region_of, stop_of, IsLoad};
+ghost use Rattle.ap_elfmap.specs.ElfPlans.{Checks, region_of, IsLoad};
 
 use crate::fault::{check, fault};
 use ap_elf::ElfCause::{Congruent, Order, Range, Sizes, Top};
-use ap_elf::{ElfFault, Entry};
-use ap_fields::{ceil_to, floor_to};
-use ap_image::{Perms, Region};
+use ap_elf::constants::{ADDRESS_TOP, MOST_PHDRS};
+use ap_elf::{ElfFault, Entry, load_end, load_perms};
+use ap_fields::floor_to;
+use ap_image::{MOST_REGIONS, Region};
 use arrayvec::ArrayVec;
-use bitflags::Flags;
 
 /// The regions of loads of a file of `size` bytes, or the first rule that a load breaks, load by load.
 #[tactic(auto, using(ap_fields::proofs::FirstFaults::join_steps))]
-pub fn regions(loads: &[Entry], size: u64, page: u64) -> Result<ArrayVec<Region, 97>, ElfFault>
+pub fn regions(
+    loads: &[Entry],
+    size: u64,
+    page: u64,
+) -> Result<ArrayVec<Region, MOST_REGIONS>, ElfFault>
     requires page { IsGranule page }
-    requires few { length loads.now ≤ 64 }
+    requires few { length loads.now ≤ MOST_PHDRS }
     ensures rules { Checks result (loads_rules page size 1 0 loads.now) }
     ensures regions { IfOk result (λ found. found.items ≡ map (region_of page size) loads.now) }
 {
@@ -29,7 +32,7 @@ pub fn regions(loads: &[Entry], size: u64, page: u64) -> Result<ArrayVec<Region,
     for p in loads {
         check_load(p, k, low, size, page)?;
         regions.push(region(p, size, page));
-        low = stop(p, page);
+        low = load_end(p, page);
         k += 1;
     }
     Ok(regions)
@@ -43,13 +46,12 @@ fn check_load(p: &Entry, k: u16, low: u64, size: u64, page: u64) -> Result<(), E
     ensures load { OnOk result (IsLoad page size p.now) }
 {
     let bare = p.filesz == 0;
-    let top = 1u64 << 47;
     let within = p.filesz <= size && p.offset <= size - p.filesz;
     check(&[
         (p.filesz <= p.memsz, fault(Sizes, k, p.filesz)),
         (bare || within, fault(Range, k, p.offset)),
         (
-            p.memsz <= top && p.vaddr <= top - p.memsz,
+            p.memsz <= ADDRESS_TOP && p.vaddr <= ADDRESS_TOP - p.memsz,
             fault(Top, k, p.vaddr),
         ),
         (
@@ -60,16 +62,6 @@ fn check_load(p: &Entry, k: u16, low: u64, size: u64, page: u64) -> Result<(), E
     ])
 }
 
-// Where the pages of a load end.
-#[tactic(auto, using(ap_fields::proofs::Granules::powers))]
-fn stop(p: &Entry, page: u64) -> u64
-    requires page { IsGranule page }
-    requires top { p.now.vaddr + p.now.memsz ≤ 2 ^ 47 }
-    ensures { result ≡ stop_of page p.now }
-{
-    ceil_to(p.vaddr + p.memsz, page)
-}
-
 // The region of a load that meets its rules.
 #[tactic(auto, using(ap_fields::proofs::Granules::powers, crate::specs::Laws::load_facts), unfolding(crate::specs::ElfPlans::region_of))]
 fn region(p: &Entry, size: u64, page: u64) -> Region
@@ -78,8 +70,8 @@ fn region(p: &Entry, size: u64, page: u64) -> Region
     ensures { result ≡ region_of page size p.now }
 {
     let start = floor_to(p.vaddr, page);
-    let span = stop(p, page) - start;
-    let perms = Perms::from_bits_retain((p.flags & 7) as u8);
+    let span = load_end(p, page) - start;
+    let perms = load_perms(p);
     if p.filesz == 0 {
         return Region {
             start,

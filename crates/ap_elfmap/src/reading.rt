@@ -4,14 +4,14 @@ ghost use Rattle.ap_fields.specs.Bytes.{over};
 ghost use Rattle.ap_fields.specs.Readings.{bytes_in};
 ghost use Rattle.ap_elf.specs.Fields.{header_of, entries_of};
 ghost use Rattle.ap_elf.specs.ElfReading.{elf_reading_by, elf_reading};
-ghost use Rattle.ap_elf.specs.Machines.{number_of};
+ghost use Rattle.ap_elf.specs.Machines.{number_of, IsPage};
 ghost use Rattle.ap_image.specs.Plans.{AreBacked};
 ghost use Rattle.ap_image.specs.Reading.{IsPlanOf};
-ghost use Rattle.ap_elf.specs.Machines.{IsPage};
 ghost use Rattle.ap_elfmap.specs.ElfPlans.{Looks, elf_plan, elf_plan_by};
 ghost use Rattle.ap_elfmap.specs.Laws.{cells-by, frame-elf, page-granule};
 
 use crate::file::read_with_in;
+use ap_elf::constants::EHDR_SIZE;
 use ap_elf::{ElfFault, Machine};
 use ap_files::SliceFiles;
 use ap_image::{Plan, Reading};
@@ -19,7 +19,7 @@ use ap_image::{Plan, Reading};
 /// The reading of ELF files for a machine, at a page size of it: 4096 bytes, or also 16384 for AArch64.
 ///
 /// A file is refused by the rules of [`ElfCause`], in its order, those of a load load by load. The loads are the entries
-/// of type 1 that have bytes in memory. Each maps the pages that it is in, and these show the file wherever the load's
+/// of type `PT_LOAD` that have bytes in memory. Each maps the pages that it is in, and these show the file wherever the load's
 /// bytes stand in it, also before the load and, where all of the load stands in the file, behind it (System V gABI,
 /// "Program Loading").
 #[derive(Clone, Copy, Debug, PartialEq, Eq)]
@@ -61,12 +61,16 @@ impl Reading for ElfReading {
 pub fn read_with(
     machine: Machine,
     page: u64,
-    header: &[u8; 64],
+    header: &[u8; EHDR_SIZE],
     file: &[u8],
 ) -> Result<Plan, ElfFault>
     requires { IsPage machine page }
-    ensures plan { result ≡ elf_plan_by (number_of machine) page (length file.now) (header_of (over file.now header.now)) (entries_of (over file.now header.now)) }
-    ensures image { IsPlanOf result file.now (elf_reading_by (number_of machine) page (length file.now) (header_of (over file.now header.now)) (entries_of (over file.now header.now)) (bytes_in file.now)) }
+    ensures plan { result ≡ elf_plan_by (number_of machine) page (length file.now)
+        (header_of (over file.now header.now)) (entries_of (over file.now header.now)) }
+    ensures image { IsPlanOf result file.now
+        (elf_reading_by (number_of machine) page (length file.now)
+        (header_of (over file.now header.now)) (entries_of (over file.now header.now))
+        (bytes_in file.now)) }
     ensures backed { IfOk result (λ plan. AreBacked plan.regions (length file.now)) }
 {
     let mut files = SliceFiles { bytes: file };

@@ -5,6 +5,7 @@ use Rattle.std.specs.Option.{option_and_then}
 use Rattle.memchr.specs.Find.{occurs_at}
 use Rattle.ap_fields.specs.Fields.{number_at}
 use Rattle.ap_fields.specs.declared.sizes.TheConstants.{WINDOW}
+use Rattle.ap_elf.specs.declared.constants.TheConstants.{EHDR_SIZE}
 use Rattle.ap_octal.specs.OctalReading.{octal_bytes_of}
 
 -- the file begins as one of the format
@@ -26,7 +27,7 @@ begins_header machine bytes =
 -- the first 64 bytes, where they are such a header
 abbrev pub header_in : ℕ → List ℕ → Option (List ℕ)
 header_in machine bytes =
-    if nat_le 64 (length bytes) && begins_header machine (take 64 bytes) then Some (take 64 bytes) else None
+    if nat_le EHDR_SIZE (length bytes) && begins_header machine (take EHDR_SIZE bytes) then Some (take EHDR_SIZE bytes) else None
 
 -- the header that a statement at a place of the window prints, where there is one for the machine
 abbrev pub header_at : ℕ → List ℕ → ℕ → Option (List ℕ)

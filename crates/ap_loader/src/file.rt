@@ -1,15 +1,15 @@
 // The reading of APE files by their names.
 ghost use Rattle.std.specs.Prelude.{◌≡◌, IfOk};
 ghost use Rattle.ap_files.specs.Reads.{HasSize, Reads};
-ghost use Rattle.ap_elf.specs.Machines.{number_of};
+ghost use Rattle.ap_elf.specs.Machines.{number_of, IsPage};
 ghost use Rattle.ap_image.specs.Plans.{AreBacked};
-ghost use Rattle.ap_elf.specs.Machines.{IsPage};
 ghost use Rattle.ap_loader.specs.ApeReading as spec;
 ghost use Rattle.ap_loader.specs.ApeReading.{ape_plan};
 
 use crate::fault::ApeFault;
 use crate::reading::{ApeReading, header_for};
 use ap_elf::Machine;
+use ap_elf::constants::EHDR_SIZE;
 use ap_elfmap::read_with_in;
 use ap_fields::WINDOW;
 use ap_files::{Failed, Files};
@@ -28,18 +28,16 @@ impl ApeReading {
     ) -> Result<Result<Plan, ApeFault>, Failed>
         requires page { IsPage self.now.machine self.now.page }
         requires size { HasSize (F.state files.old).kept name.now size }
-        ensures read { Reads (F.state files.old) (F.state files.new) name.now (λ b plan. plan ≡ ape_plan (number_of self.now.machine) self.now.page b) result }
+        ensures read { Reads (F.state files.old) (F.state files.new) name.now
+            (λ b plan. plan ≡ ape_plan (number_of self.now.machine) self.now.page b) result }
         ensures backed { IfOk result (λ plan. IfOk plan (λ p. AreBacked p.regions size)) }
     {
-        let header = match header_in(self.machine, files, name, size) {
-            Ok(Ok(header)) => header,
-            Ok(Err(fault)) => return Ok(Err(fault)),
-            Err(failed) => return Err(failed),
+        let header = match header_in(self.machine, files, name, size)? {
+            Ok(header) => header,
+            Err(fault) => return Ok(Err(fault)),
         };
-        match read_with_in(self.machine, self.page, &header, files, name, size) {
-            Ok(plan) => Ok(plan.map_err(ApeFault::Elf)),
-            Err(failed) => Err(failed),
-        }
+        let plan = read_with_in(self.machine, self.page, &header, files, name, size)?;
+        Ok(plan.map_err(ApeFault::Elf))
     }
 }
 
@@ -49,14 +47,13 @@ fn header_in<F: Files>(
     files: &mut F,
     name: &str,
     size: u64,
-) -> Result<Result<[u8; 64], ApeFault>, Failed>
+) -> Result<Result<[u8; EHDR_SIZE], ApeFault>, Failed>
     requires { HasSize (F.state files.old).kept name.now size }
-    ensures { Reads (F.state files.old) (F.state files.new) name.now (λ b header. header ≡ spec.header_for (number_of machine) b) result }
+    ensures { Reads (F.state files.old) (F.state files.new) name.now
+        (λ b header. header ≡ spec.header_for (number_of machine) b) result }
 {
     let mut room = [0; WINDOW];
     let window = &mut room[..size.min(WINDOW as u64) as usize];
-    match files.read_at(name, 0, window) {
-        Ok(()) => Ok(header_for(window, machine)),
-        Err(failed) => Err(failed),
-    }
+    files.read_at(name, 0, window)?;
+    Ok(header_for(window, machine))
 }

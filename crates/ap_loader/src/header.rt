@@ -6,13 +6,14 @@ ghost use Rattle.ap_loader.specs.Embedded as spec;
 ghost use Rattle.ap_loader.specs.Embedded.{taken};
 
 use ap_elf::Machine;
+use ap_elf::constants::EHDR_SIZE;
 use ap_fields::{WINDOW, le16};
 use ap_octal::{decode_at, statements};
 
 /// The first statement in the file's first 8192 bytes whose octal text stands for at least 64 bytes that begin as an ELF
 /// header for the machine: its place, and the first 64 of these bytes. None exactly where the file doesn't begin with
 /// `MZqFpD='`, `jartsr='` or `APEDBG='`, or there is no such statement.
-pub fn embedded(file: &[u8], machine: Machine) -> Option<(usize, [u8; 64])>
+pub fn embedded(file: &[u8], machine: Machine) -> Option<(usize, [u8; EHDR_SIZE])>
     ensures { result ≡ taken (number_of machine) file.now }
 {
     if !has_magic(file) {
@@ -28,8 +29,8 @@ pub fn embedded(file: &[u8], machine: Machine) -> Option<(usize, [u8; 64])>
     None
 }
 
-/// The header that the statement at a place prints, where it is one for the machine.
-fn header_at(file: &[u8], at: usize, machine: Machine) -> Option<[u8; 64]>
+// The header that the statement at a place prints, where it is one for the machine.
+fn header_at(file: &[u8], at: usize, machine: Machine) -> Option<[u8; EHDR_SIZE]>
     requires { Opens file.now at }
     ensures { result ≡ spec.header_at (number_of machine) (take WINDOW file.now) at }
 {
@@ -41,8 +42,8 @@ fn header_at(file: &[u8], at: usize, machine: Machine) -> Option<[u8; 64]>
     }
 }
 
-/// Whether bytes begin as an ELF header of 64 bits, little endian, for the machine.
-fn is_header_for(bytes: &[u8; 64], machine: Machine) -> bool
+// Whether bytes begin as an ELF header of 64 bits, little endian, for the machine.
+fn is_header_for(bytes: &[u8; EHDR_SIZE], machine: Machine) -> bool
     ensures { result ≡ spec.begins_header (number_of machine) bytes.now }
 {
     bytes.starts_with(b"\x7fELF\x02\x01") && le16(bytes, 18) == machine.number()

@@ -2,10 +2,10 @@
 //! puts into memory (APE specification).
 #![tactic(auto)]
 
-mod fault;
-mod file;
-mod header;
-mod reading;
+mod reading; // the reading, by a file's bytes
+mod file; // the same, by its name
+mod header; // the header that a file embeds
+mod fault; // why a file has no reading
 
 pub use fault::ApeFault;
 pub use header::embedded;

@@ -1,7 +1,6 @@
 // The reading of APE files.
 ghost use Rattle.std.specs.Prelude.{◌≡◌};
-ghost use Rattle.ap_elf.specs.Machines.{number_of};
-ghost use Rattle.ap_elf.specs.Machines.{IsPage};
+ghost use Rattle.ap_elf.specs.Machines.{number_of, IsPage};
 ghost use Rattle.ap_elfmap.specs.Laws.{page-granule};
 ghost use Rattle.ap_loader.specs.ApeReading as spec;
 ghost use Rattle.ap_loader.specs.ApeReading.{ape_reading, ape_plan, Looks};
@@ -10,6 +9,7 @@ ghost use Rattle.ap_loader.specs.Laws.{cells-ape, frame-ape};
 use crate::fault::ApeFault;
 use crate::header::{embedded, has_magic};
 use ap_elf::Machine;
+use ap_elf::constants::EHDR_SIZE;
 use ap_files::SliceFiles;
 use ap_image::{Plan, Reading};
 
@@ -51,7 +51,7 @@ impl Reading for ApeReading {
 }
 
 /// The header that the reading of a file puts in place of its first 64 bytes, or why there is none.
-pub(crate) fn header_for(file: &[u8], machine: Machine) -> Result<[u8; 64], ApeFault>
+pub(crate) fn header_for(file: &[u8], machine: Machine) -> Result<[u8; EHDR_SIZE], ApeFault>
     ensures { result ≡ spec.header_for (number_of machine) file.now }
 {
     if !has_magic(file) {

@@ -3,6 +3,7 @@ use Rattle.std.specs.Prelude.{◌≡◌, ◌≢◌, ℕ, ◌+◌, ◌<◌, ◌�
 use Rattle.ap_fields.specs.Bytes.{Holds}
 use Rattle.ap_fields.specs.declared.sizes.TheConstants.{WINDOW}
 use Rattle.ap_octal.specs.OctalText.{IsOctal}
+use Rattle.ap_octal.specs.declared.types.TheConstants.{HEADER_SIZE}
 use Rattle.ap_octal.specs.declared.types.Decoded.{Decoded}
 
 -- `printf '` stands at a place, wholly in the window
@@ -22,7 +23,7 @@ pub record Closes (file : List ℕ) (from end : ℕ) : Type 0 where
 pub record Embeds (file : List ℕ) (at end : ℕ) (bytes : List ℕ) : Type 0 where
   pub closes : Closes file (at + 8) end
   pub octal : IsOctal (slice_range file (at + 8) end) bytes
-  pub enough : 64 ≤ length bytes
+  pub enough : HEADER_SIZE ≤ length bytes
 
 -- it is nothing of that kind
 abbrev pub EmbedsNothing : List ℕ → ℕ → Type 0
@@ -32,5 +33,5 @@ EmbedsNothing file at = (end : ℕ) (bytes : List ℕ) → ¬ Embeds file at end
 pub record Tells (file : List ℕ) (at : ℕ) (decoded : Decoded) : Type 0 where
   pub bytes : List ℕ
   pub embeds : Embeds file at decoded.end bytes
-  pub first : decoded.first ≡ take 64 bytes
+  pub first : decoded.first ≡ take HEADER_SIZE bytes
   pub count : decoded.count ≡ length bytes

@@ -2,17 +2,17 @@
 //! header (APE specification).
 #![tactic(auto)]
 
-mod decode;
-mod law;
-mod octal;
-mod search;
-mod types;
-mod write;
+mod types; // what a statement embeds
+mod search; // where statements open and close
+mod octal; // octal text, read
+mod decode; // a statement, read
+mod write; // a statement, written
+mod law; // what holds of octal text itself
 
 pub use decode::decode_at;
 pub use law::{octal_texts_are_exact, octal_texts_are_read, statements_are_octal};
 pub use search::statements;
-pub use types::Decoded;
+pub use types::{Decoded, HEADER_SIZE, MOST_STATEMENT};
 pub use write::write_statement;
 
 #[cfg(test)]

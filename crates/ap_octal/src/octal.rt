@@ -3,16 +3,18 @@ ghost use Rattle.std.specs.Prelude.{◌≡◌, ◌<◌, drop, length, slice_inde
 ghost use Rattle.ap_octal.specs.OctalText.{IsPlain, EndsDigits};
 ghost use Rattle.ap_octal.specs.OctalSteps.{Begins, HasDigit, IsNoOctal, Spells};
 
+use crate::types::HEADER_SIZE;
+
 /// The first 64 of the bytes that the text stands for, and how many these are. None exactly where it isn't octal text.
-pub(crate) fn octal_bytes(text: &[u8]) -> Option<([u8; 64], usize)>
+pub(crate) fn octal_bytes(text: &[u8]) -> Option<([u8; HEADER_SIZE], usize)>
     ensures { MatchOption result (IsNoOctal text.now) (λ p. Spells text.now p.0 p.1) }
 {
-    let mut first = [0; 64];
+    let mut first = [0; HEADER_SIZE];
     let mut count = 0;
     let mut rest = text;
     while !rest.is_empty() {
         let (byte, width) = next_byte(rest)?;
-        if count < 64 {
+        if count < HEADER_SIZE {
             first[count] = byte;
         }
         count += 1;
@@ -21,7 +23,7 @@ pub(crate) fn octal_bytes(text: &[u8]) -> Option<([u8; 64], usize)>
     Some((first, count))
 }
 
-/// The byte that the text's front stands for, and the length of that front.
+// The byte that the text's front stands for, and the length of that front.
 fn next_byte(text: &[u8]) -> Option<(u8, usize)>
     requires { 0 < length text.now }
     ensures { MatchOption result (IsNoOctal text.now) (λ p. Begins text.now p.0 p.1) }
@@ -36,7 +38,7 @@ fn next_byte(text: &[u8]) -> Option<(u8, usize)>
     }
 }
 
-/// The byte that a backslash and the octal digits behind it, three at most, stand for, and the length of these.
+// The byte that a backslash and the octal digits behind it, three at most, stand for, and the length of these.
 fn escaped_byte(text: &[u8]) -> Option<(u8, usize)>
     requires some { 0 < length text.now }
     requires backslash { slice_index text.now 0 ≡ 92 }
@@ -57,14 +59,14 @@ fn escaped_byte(text: &[u8]) -> Option<(u8, usize)>
     }
 }
 
-/// Whether the byte stands for itself.
+// Whether the byte stands for itself.
 fn is_plain(byte: u8) -> bool
     ensures { IsTrue result ↔ IsPlain byte }
 {
     1 <= byte && byte <= 127 && byte != b'%' && byte != b'\'' && byte != b'\\'
 }
 
-/// The value of the octal digit at `at`, where one stands there.
+// The value of the octal digit at `at`, where one stands there.
 fn octal_digit(text: &[u8], at: usize) -> Option<u8>
     ensures { MatchOption result (EndsDigits (drop at text.now)) (λ d. HasDigit text.now at d) }
 {

@@ -5,10 +5,12 @@ ghost use Rattle.ap_octal.specs.OctalText.{IsOctal};
 ghost use Rattle.ap_octal.specs.Statement as statement;
 ghost use Rattle.ap_octal.specs.Statement.{octal_of, octals_of, statement_of};
 
-/// Writes from `at` on the canonical statement, which prints the header, and answers its length: 265 bytes at most, for
-/// which there is room. All other bytes stay.
-pub fn write_statement(out: &mut [u8], at: usize, header: &[u8; 64]) -> usize
-    requires { at + 265 ≤ length out.old }
+use crate::types::{HEADER_SIZE, MOST_STATEMENT};
+
+/// Writes from `at` on the canonical statement, which prints the header, and answers its length: [`MOST_STATEMENT`] at
+/// most, for which there is room. All other bytes stay.
+pub fn write_statement(out: &mut [u8], at: usize, header: &[u8; HEADER_SIZE]) -> usize
+    requires { at + MOST_STATEMENT ≤ length out.old }
     ensures count { result ≡ length (statement_of header.now) }
     ensures text { out.new ≡ patched out.old at (statement_of header.now) }
     ensures octal { IsOctal (octals_of header.now) header.now }
@@ -20,7 +22,7 @@ pub fn write_statement(out: &mut [u8], at: usize, header: &[u8; 64]) -> usize
     put_text(out, end, b"'") - at
 }
 
-/// Writes a text from `at` on, and answers the place behind it.
+// Writes a text from `at` on, and answers the place behind it.
 fn put_text(out: &mut [u8], at: usize, text: &[u8]) -> usize
     requires { at + length text.now ≤ length out.old }
     ensures end { result ≡ at + length text.now }
@@ -31,7 +33,7 @@ fn put_text(out: &mut [u8], at: usize, text: &[u8]) -> usize
     end
 }
 
-/// Writes the text of one byte from `at` on, and answers the place behind it.
+// Writes the text of one byte from `at` on, and answers the place behind it.
 fn put_octal(out: &mut [u8], at: usize, byte: u8) -> usize
     requires { at + 4 ≤ length out.old }
     ensures end { result ≡ at + length (octal_of byte) }
@@ -45,7 +47,7 @@ fn put_octal(out: &mut [u8], at: usize, byte: u8) -> usize
     }
 }
 
-/// Whether the byte is an ASCII letter.
+// Whether the byte is an ASCII letter.
 fn is_letter(byte: u8) -> bool
     ensures { result ≡ statement.is_letter byte }
 {

@@ -13,7 +13,7 @@ loop-done-preserved g c =
     let within : done + n ≤ length text = grind arith in
     let piece : done + n - done ≡ n = omega arith in
     let long : length (take n (drop done text)) ≡ n = length-take-le n (drop done text) (omega (arith, length-drop done text)) in
-    let read = rw c.in-Ok-true.field-0-test at c.in-Ok-true.ensures in
+    let read = rw c.if-not-branch.false at c.in_ok-piece_agrees_in.ensures in
     record {
       state = read.0 ∙ c.loop-done.invariant.state;
       below = within;
@@ -24,15 +24,15 @@ loop-done-preserved g c =
           ∙ ap (λ k. bytes_eq (take k (drop (c.args.at + done) b)) (take n (drop done text))) long);
     }
 
-pub returns-in-Ok-false : goal.returns-in-Ok-false
-returns-in-Ok-false g c =
+pub returns-then-not-branch : goal.returns-then-not-branch
+returns-then-not-branch g c =
     let text = c.args.text.now in
     let done = c.loop-done.done in
     let n = c.min-count.result in
     let within : done + n ≤ length text = grind arith in
     let piece : done + n - done ≡ n = omega arith in
     let long : length (take n (drop done text)) ≡ n = length-take-le n (drop done text) (omega (arith, length-drop done text)) in
-    let read = rw c.in-Ok-false.field-0-test at c.in-Ok-false.ensures in (
+    let read = rw c.if-not-branch.true at c.in_ok-piece_agrees_in.ensures in (
       read.0 ∙ c.loop-done.invariant.state,
       λ m b told at.
           agree-not b text c.args.at done n _ within (c.loop-done.invariant.left m b told at)

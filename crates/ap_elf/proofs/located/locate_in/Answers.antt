@@ -5,11 +5,11 @@ use Rattle.ap_elf.proofs.SymbolSteps.{located-found}
 use Rattle.ap_files.proofs.ReadLemmas.{reads-after}
 use Rattle.ap_elf.proofs.located.locate_in.Goals as goal
 
-pub returns-in-Ok-Some-clause-read : goal.returns-in-Ok-Some-clause-read
-returns-in-Ok-Some-clause-read g c =
+pub returns-in-Some-2-clause-read : goal.returns-in-Some-2-clause-read
+returns-in-Some-2-clause-read g c =
     let h = c.args.h.now in
-    let t = c.in-Ok-Some.t in
-    let first = rw c.in-Ok-Some.field-0-is at c.in-Ok-Some.ensures in
+    let t = c.in-Some-2.t in
+    let first = rw c.in-Some-2.is at c.in_ok-t.ensures in
     reads-after (g.F.Files.state c.args.files.now) (g.F.Files.state c.first_table_in.new.files) (g.F.Files.state c.tables_in.new.files) c.args.name.now
     (λ b l. l ≡ found_unless (first_fault (tables_rules c.args.size b h (Some t))) (tables_of b h (Some t)))
     (λ b l. l ≡ located c.args.size b h) c.tables_in.result first.0

@@ -5,10 +5,10 @@ use Rattle.ap_elf.proofs.lookup.symbol_in.Goals as goal
 
 pub value_in-requires-clause-seen : goal.value_in-requires-clause-seen
 value_in-requires-clause-seen g c =
-    let read = rw c.in-Ok-Some.field-0-is at c.in-Ok-Some.ensures in
+    let read = rw c.in-Some.is at c.in_ok-seen.ensures in
     λ m b told at. read.1 m b (ap (λ (s : FileState). s.kept) (sym read.0) ∙ told) at
 
-pub returns-in-Ok-None : goal.returns-in-Ok-None
-returns-in-Ok-None g c =
-    let read = rw c.in-Ok-None.field-0-is at c.in-Ok-None.ensures in
+pub returns-in-None : goal.returns-in-None
+returns-in-None g c =
+    let read = rw c.in-None.is at c.in_ok-seen.ensures in
     (read.0, λ m b told at. sym (value_of-nowhere b c.args.wanted.now c.args.t.now (read.1 m b told at)))

@@ -6,12 +6,12 @@ use Rattle.ap_elf.proofs.SymbolSteps.{symbol-step-front}
 use Rattle.ap_elf.proofs.Values.{value-here, value-next}
 use Rattle.ap_elf.proofs.lookup.value_among_in.Goals as goal
 
-pub returns-in-Ok-true : goal.returns-in-Ok-true
-returns-in-Ok-true g c =
+pub returns-then-branch : goal.returns-then-branch
+returns-then-branch g c =
     let part = c.args.part.now in
     let i = c.loop-i.i in
     let is = c.symbol_from-s.ensures in
-    let read = rw c.in-Ok-true.field-0-test at c.in-Ok-true.ensures in (
+    let read = rw c.if-branch.true at c.in_ok-has_name_in.ensures in (
       read.0 ∙ c.loop-i.invariant.state,
       λ m b told at.
           let strings = strings_of b c.args.t.now in
@@ -26,7 +26,7 @@ loop-i-preserved g c =
     let part = c.args.part.now in
     let i = c.loop-i.i in
     let is = c.symbol_from-s.ensures in
-    let read = rw c.in-Ok-false.field-0-test at c.in-Ok-false.ensures in
+    let read = rw c.if-branch.false at c.in_ok-has_name_in.ensures in
     record {
       state = read.0 ∙ c.loop-i.invariant.state;
       left = λ m b told at.

@@ -15,7 +15,7 @@ pub loop-done-preserved : goal.loop-done-preserved
 loop-done-preserved g c =
     let t = c.args.t.now in
     let within : c.loop-done.done + c.min-count.result ≤ t.count = grind arith in
-    let read = rw c.in-Ok-None.field-0-is at c.in-Ok-None.ensures in
+    let read = rw c.in-None.is at c.in_ok-block_in.ensures in
     record {
       state = read.0 ∙ c.loop-done.invariant.state;
       below = within;
@@ -24,13 +24,13 @@ loop-done-preserved g c =
           (c.loop-done.invariant.left m b told at) (read.1 m b (ap (λ (s : FileState). s.kept) c.loop-done.invariant.state ∙ told) at);
     }
 
-pub returns-in-Ok-Some : goal.returns-in-Ok-Some
-returns-in-Ok-Some g c =
+pub returns-in-Some : goal.returns-in-Some
+returns-in-Some g c =
     let t = c.args.t.now in
     let within : c.loop-done.done + c.min-count.result ≤ t.count = grind arith in
-    let read = rw c.in-Ok-Some.field-0-is at c.in-Ok-Some.ensures in (
+    let read = rw c.in-Some.is at c.in_ok-block_in.ensures in (
       read.0 ∙ c.loop-done.invariant.state,
       λ m b told at.
-          block-found b (strings_of b t) c.args.wanted.now t.at t.count c.loop-done.done c.min-count.result c.in-Ok-Some.value _ within
+          block-found b (strings_of b t) c.args.wanted.now t.at t.count c.loop-done.done c.min-count.result c.in-Some.value _ within
           (c.loop-done.invariant.left m b told at) (read.1 m b (ap (λ (s : FileState). s.kept) c.loop-done.invariant.state ∙ told) at),
     )

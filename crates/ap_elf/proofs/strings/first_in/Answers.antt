@@ -11,7 +11,7 @@ loop-at-preserved g c =
     let n = c.min-count.result in
     let within : c.loop-at.at + n ≤ t.length = grind arith in
     let long : length c.args.text.now ≤ n = grind arith in
-    let read = rw c.in-Ok-None.field-0-is at c.in-Ok-None.ensures.first in
+    let read = rw c.in-None.is at c.in_ok-first_in_piece.ensures.first in
     let low = c.loop-at.invariant.low in
     record {
       state = read.0 ∙ c.loop-at.invariant.state;
@@ -23,16 +23,16 @@ loop-at-preserved g c =
           (c.loop-at.invariant.before m b told at) (read.1 m b (ap (λ (s : FileState). s.kept) c.loop-at.invariant.state ∙ told) at);
     }
 
-pub returns-in-Ok-Some-clause-first : goal.returns-in-Ok-Some-clause-first
-returns-in-Ok-Some-clause-first g c =
+pub returns-in-Some-clause-first : goal.returns-in-Some-clause-first
+returns-in-Some-clause-first g c =
     let t = c.args.t.now in
     let n = c.min-count.result in
     let within : c.loop-at.at + n ≤ t.length = grind arith in
-    let read = rw c.in-Ok-Some.field-0-is at c.in-Ok-Some.ensures.first in (
+    let read = rw c.in-Some.is at c.in_ok-first_in_piece.ensures.first in (
       read.0 ∙ c.loop-at.invariant.state,
       λ m b told at.
           let len = length-strings b t (told_of (g.F.Files.state c.args.files.now).kept c.args.name.now m b c.requires.tables.told told at) in
-          search-found (strings_of b t) c.args.text.now c.loop-at.at n (omega arith) c.args.from c.in-Ok-Some.place c.loop-at.invariant.low
+          search-found (strings_of b t) c.args.text.now c.loop-at.at n (omega arith) c.args.from c.in-Some.place c.loop-at.invariant.low
           (c.loop-at.invariant.before m b told at) (read.1 m b (ap (λ (s : FileState). s.kept) c.loop-at.invariant.state ∙ told) at),
     )
 

@@ -12,10 +12,10 @@ returns-in-Err-clause-read g c = (
       (told_of (g.F.Files.state c.args.files.now).kept c.args.name.now m b c.requires.size told at) c.in-Err.ensures.rules,
 )
 
-pub returns-in-Ok-clause-read : goal.returns-in-Ok-clause-read
-returns-in-Ok-clause-read g c = (
-  c.in-Ok.ensures.0,
+pub returns-clause-read : goal.returns-clause-read
+returns-clause-read g c = (
+  c.in_ok-entries.ensures.0,
   λ m b told at.
       planned-named (number_of c.args.machine) c.args.page c.args.size c.header-h.result c.deref.result.now c.args.header.now b c.plan_by.result c.plan_by.ensures.plan c.header-h.ensures (omega arith)
-      (told_of (g.F.Files.state c.args.files.now).kept c.args.name.now m b c.requires.size told at) (c.deref.ensures.0 ∙ c.in-Ok.ensures.1 m b told at),
+      (told_of (g.F.Files.state c.args.files.now).kept c.args.name.now m b c.requires.size told at) (c.deref.ensures.0 ∙ c.in_ok-entries.ensures.1 m b told at),
 )

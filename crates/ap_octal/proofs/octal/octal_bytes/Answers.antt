@@ -5,7 +5,7 @@ use Rattle.ap_octal.specs.OctalSteps.{Splits}
 use Rattle.ap_octal.proofs.OctalSplits.{splits-more, whole}
 use Rattle.ap_octal.proofs.KeptBytes.{kept-more, kept-past}
 use Rattle.ap_octal.proofs.octal.octal_bytes.Goals as goal
-use Rattle.ap_octal.proofs.octal.octal_bytes.Goals.{then-count-lt64, else-count-lt64}
+use Rattle.ap_octal.proofs.octal.octal_bytes.Goals.{then-count-lt-HEADER_SIZE, else-count-lt-HEADER_SIZE}
 
 pub loop-rest-preserved : goal.loop-rest-preserved
 loop-rest-preserved c =
@@ -23,13 +23,13 @@ loop-rest-preserved c =
           (splits-more c.args.text.now i.front c.loop-rest.rest.now (b ∷ []) (drop c.in_ok-byte.width c.loop-rest.rest.now) i.splits begins.splits);
       count = omega arith;
       most = subst (λ r. c.loop-rest.count + 1 + length r ≤ length c.args.text.now) (sym rest) (omega (arith, long));
-      size = elim c.if-count-lt64.branch [
-        | then-count-lt64 w ↦ ap length w.first-is ∙ length-set c.loop-rest.first c.loop-rest.count b ∙ i.size
-        | else-count-lt64 w ↦ ap length w.first-is ∙ i.size
+      size = elim c.if-count-lt-HEADER_SIZE.branch [
+        | then-count-lt-HEADER_SIZE w ↦ ap length w.first-is ∙ length-set c.loop-rest.first c.loop-rest.count b ∙ i.size
+        | else-count-lt-HEADER_SIZE w ↦ ap length w.first-is ∙ i.size
       ];
-      kept = elim c.if-count-lt64.branch [
-        | then-count-lt64 w ↦ kept-more c.loop-rest.first _ i.front c.loop-rest.count b i.size i.count w.if-count-lt64.true i.kept w.first-is
-        | else-count-lt64 w ↦ kept-past c.loop-rest.first _ i.front c.loop-rest.count b i.size i.count w.if-count-lt64.false i.kept w.first-is
+      kept = elim c.if-count-lt-HEADER_SIZE.branch [
+        | then-count-lt-HEADER_SIZE w ↦ kept-more c.loop-rest.first _ i.front c.loop-rest.count b i.size i.count w.if-count-lt-HEADER_SIZE.true i.kept w.first-is
+        | else-count-lt-HEADER_SIZE w ↦ kept-past c.loop-rest.first _ i.front c.loop-rest.count b i.size i.count w.if-count-lt-HEADER_SIZE.false i.kept w.first-is
       ];
     }
 
