@@ -1,5 +1,5 @@
 -- A linked file carries each of its inputs.
-use Rattle.std.proofs.Common.{◌≡◌, ◌≢◌, ℕ, zero, suc, ◌+◌, ◌^◌, ◌<◌, ◌≤◌, true, cond, not, ◌==◌, List, [], ◌∷◌, ◌++◌, length, All, IfSome, refl, sym, ap, ◌∙◌, subst, arith, append_assoc, append-nil, length-append, Option, Some, None, Result, Ok, Err}
+use Rattle.std.proofs.Common.{◌≡◌, ◌≢◌, inl, inr, ℕ, zero, suc, ◌+◌, ◌^◌, ◌<◌, ◌≤◌, true, cond, not, ◌==◌, List, [], ◌∷◌, ◌++◌, length, All, IfSome, refl, sym, ap, ◌∙◌, subst, arith, append_assoc, append-nil, length-append, Option, Some, None, Result, Ok, Err}
 use Rattle.std.proofs.lemmas.Bool.Decides.{nat_tests}
 use Rattle.ap_fields.specs.Bytes.{Holds, over}
 use Rattle.ap_fields.specs.Readings.{Cell, MemoryImage, bytes_in}
@@ -25,13 +25,13 @@ use Rattle.ap_loader.specs.declared.fault.ApeFault.TheVariants.{NoMagic}
 use Rattle.ap_elf.specs.ElfReading.{elf_reading}
 use Rattle.ap_layout.specs.declared.layout.Area.{Area}
 use Rattle.ap_layout.specs.Areas.{end_from}
-use Rattle.ap_layout.specs.Positions.{Positions, Fits, positions_of, inputs_of, input_areas, tables_start, table_length}
+use Rattle.ap_layout.specs.Positions.{Positions, Fits, positions_of, inputs_of, PlacedInput, placed_inputs, input_areas, tables_start, table_length}
 use Rattle.ap_layout.proofs.Rounded.{granule_of-is}
 use Rattle.ap_layout.proofs.NewAreas.{end-least}
 use Rattle.ap_layout.proofs.Fitting.{positions-fit, table-most}
 use Rattle.ap_script.specs.Tables.{embedded_bytes, table_text}
 use Rattle.ap_script.specs.Blocks.{block_of, body_of}
-use Rattle.ap_script.specs.Stands.{MachinesDiffer, HasTable, HasFreeDelimiter, statement_place}
+use Rattle.ap_script.specs.Stands.{MachinesDiffer, IsOneOf, HasFreeDelimiter, statement_place}
 use Rattle.ap_script.specs.Claims.{block_claims}
 use Rattle.ap_script.proofs.Claimed.{block-claimed}
 use Rattle.ap_script.proofs.BlockParts.{length-body, length-block, block-magic, block-body, block-tables}
@@ -39,7 +39,7 @@ use Rattle.ap_script.proofs.DelimiterWords.{free-delimiter}
 use Rattle.ap_script.proofs.TableZeros.{body-zeros}
 use Rattle.ap_script.proofs.Openings.{parts-holds}
 use Rattle.ap_script.proofs.StatementPlaces.{opens-only, parts-block}
-use Rattle.ap_script.proofs.TakenStatements.{count-places, places-order, taken-block, header_for-input, has-first, has-second}
+use Rattle.ap_script.proofs.TakenStatements.{count-places, places-order, taken-block, header_for-input}
 use Rattle.ap_link.specs.Same.{Same, nothing_else}
 use Rattle.ap_link.specs.LinkedIn.{HoldAll, IsLinkedIn}
 use Rattle.ap_link.specs.Linked.{input_text, input_end, tail_of, block_for, second_of, taken_second, linked_of}
@@ -208,6 +208,18 @@ second-linked options n e a b h =
 
 -- ---- what a file carries of an input
 
+-- the inputs are among those that have places
+first-placed : (options : Options) (e : Taken) (o : Option Taken)
+    → IsOneOf (record { input = e; areas = input_areas e BLOCK; table = tables_start options (inputs_of e o) }) (placed_inputs (inputs_of e o) (positions_of options e o))
+unfolding positions_of
+first-placed options e None = inl refl
+first-placed options e (Some f) = inl refl
+
+second-placed : (options : Options) (e f : Taken)
+    → IsOneOf (record { input = f; areas = input_areas f (input_end e); table = tables_start options (inputs_of e (Some f)) + table_length e }) (placed_inputs (e ∷ f ∷ []) (positions_of options e (Some f)))
+unfolding positions_of
+second-placed options e f = inr (inl refl)
+
 same-as_ape : (g : ℕ) (byte : ℕ → ℕ) (loads : List Entry) (start : ℕ) (Else : ℕ → Option Cell → Type 0) (reading : Result MemoryImage ElfFault) → Same g byte loads start Else reading → Same g byte loads start Else (as_ape reading)
 same-as_ape g byte loads start Else (Ok image) h = h
 same-as_ape g byte loads start Else (Err fault) h = absurd h
@@ -218,13 +230,13 @@ ape-by m page place file header magic is =
     ∙ ap (reading_by m page file) is
 
 carries : (options : Options) (inputs : List Taken) (l : Positions) (rest : List ℕ) (n table : ℕ) (b : List ℕ) (areas : List Area)
-    → All (λ i. Meets i) inputs → MachinesDiffer inputs → Fits options inputs l → HasTable inputs l.tables (input_of n b) table
+    → All (λ i. Meets i) inputs → MachinesDiffer inputs → Fits options inputs l → IsOneOf (record { input = input_of n b; areas = areas; table = table }) (placed_inputs inputs l)
     → IsLinkedIn (input_of n b) (entries_of b) (bytes_in b) areas table (block_of options inputs l ++ rest)
     → Carries b (input_of n b) table (statement_place options inputs l (input_of n b).machine) (block_of options inputs l ++ rest)
 carries options inputs l rest n table b areas meets differ fits has linked =
     let e : Taken = input_of n b in
     let file : List ℕ = block_of options inputs l ++ rest in
-    let header = header_for-input inputs l.tables e table differ has in
+    let header = header_for-input options inputs l (record { input = e; areas = areas; table = table }) differ fits has in
     let start = entry-taken n b in
     record {
       text = parts-holds file (statement_place options inputs l e.machine) (embedded_bytes e table) (parts-block options inputs l rest e.machine (embedded_bytes e table) fits header);
@@ -274,7 +286,7 @@ file-linked options a None h =
       order = places-order options (inputs_of e None) l;
       only = λ k. opens-only options (inputs_of e None) l (tail_of e a None) k meets fits;
       count = count-places options (inputs_of e None) l differ fits;
-      first = carries options (inputs_of e None) l (tail_of e a None) 1 (tables_start options (inputs_of e None)) a (input_areas e BLOCK) meets differ fits (has-first (tables_start options (inputs_of e None)) l.body_end e [] l.tables fits.tables) (first-linked options 1 a None h);
+      first = carries options (inputs_of e None) l (tail_of e a None) 1 (tables_start options (inputs_of e None)) a (input_areas e BLOCK) meets differ fits (first-placed options e None) (first-linked options 1 a None h);
       second = tt;
       claims = claimed-file options e a None h;
       agree = claims-agree l.total (linked_claims options a None) (linked_of options a None) (claimed-file options e a None h);
@@ -297,9 +309,9 @@ file-linked options a (Some b) h =
       only = λ k. opens-only options (inputs_of e (Some f)) l (tail_of e a o) k meets fits;
       count = count-places options (inputs_of e (Some f)) l differ fits;
       first = carries options (inputs_of e (Some f)) l (tail_of e a o) 1 (tables_start options (inputs_of e (Some f))) a (input_areas e BLOCK) meets differ fits
-          (has-first (tables_start options (inputs_of e (Some f))) l.body_end e (f ∷ []) l.tables fits.tables) (first-linked options 1 a o h);
+          (first-placed options e (Some f)) (first-linked options 1 a o h);
       second = carries options (inputs_of e (Some f)) l (tail_of e a o) 2 (tables_start options (inputs_of e (Some f)) + table_length e) b (input_areas f (input_end e)) meets differ fits
-          (has-second (tables_start options (inputs_of e (Some f))) l.body_end e f [] l.tables fits.tables) (second-linked options 2 e a b h);
+          (second-placed options e f) (second-linked options 2 e a b h);
       claims = claimed-file options e a o h;
       agree = claims-agree l.total (linked_claims options a (Some b)) (linked_of options a (Some b)) (claimed-file options e a o h);
     }

@@ -1,3 +1,4 @@
+use Rattle.ap_layout.specs.Positions.{placed_inputs}
 use Rattle.std.proofs.Common.{rules}
 use Rattle.ap_claims.proofs.Writers.{stopped-writer, next-writer}
 use Rattle.ap_script.specs.Claims.{table_claims, script_claims}
@@ -8,12 +9,12 @@ pub returns-in_err-write_tables : goal.returns-in_err-write_tables
 returns-in_err-write_tables c =
     let inputs = job_inputs c.args.job.now in
     let l = c.args.lay.now in
-    stopped-writer (table_claims inputs l.areas l.tables) (script_claims c.args.job.now.options inputs l) c.args.block.now c.write_tables.new.block c.write_tables.result c.from_residual.result
+    stopped-writer (table_claims (placed_inputs inputs l)) (script_claims c.args.job.now.options inputs l) c.args.block.now c.write_tables.new.block c.write_tables.result c.from_residual.result
     c.in_err-write_tables.field-0.0 c.write_tables.ensures c.in_err-write_tables.was (search rules)
 
 pub returns : goal.returns
 returns c =
     let inputs = job_inputs c.args.job.now in
     let l = c.args.lay.now in
-    next-writer (table_claims inputs l.areas l.tables) (script_claims c.args.job.now.options inputs l) c.args.block.now c.write_tables.new.block c.write_script.new.block c.write_tables.result c.write_script.result
+    next-writer (table_claims (placed_inputs inputs l)) (script_claims c.args.job.now.options inputs l) c.args.block.now c.write_tables.new.block c.write_script.new.block c.write_tables.result c.write_script.result
     c.in_ok-write_tables.field-0 c.write_tables.ensures c.in_ok-write_tables.was c.write_script.ensures
