@@ -309,18 +309,3 @@ both-linkable a (Some b) none =
       second = input_meets 2 b two.0;
       differ = apart-by (input_of 1 a) (input_of 2 b) (sym (pair-says a (Some b) (input_of 1 a) (Some (input_of 2 b)) ((one.0, refl), (two.0, refl))) ∙ none);
     }
-
--- the linked file of inputs that break no rule
-pub linked-where : (systems : Systems) (a : List ℕ) (b : Option (List ℕ)) → first_fault_of_both a b ≡ None → IsLinked systems a b (linked_of systems a b)
-linked-where systems a b none = file-linked systems a b (both-linkable a b none)
-
--- the file of what was taken of them
-pub linked-one : (systems : Systems) (a : List ℕ) (e : Taken) → e ≡ input_of 1 a → block_for systems e None ++ tail_of e a None ≡ linked_of systems a None
-unfolding linked_of
-linked-one systems a e is = ap (λ (x : Taken). block_for systems x None ++ tail_of x a None) is
-
-pub linked-two : (systems : Systems) (a b : List ℕ) (e f : Taken) → e ≡ input_of 1 a → f ≡ input_of 2 b → block_for systems e (Some f) ++ tail_of e a (Some (f, b)) ≡ linked_of systems a (Some b)
-unfolding linked_of
-linked-two systems a b e f is also =
-    ap (λ (x : Taken). block_for systems x (Some f) ++ tail_of x a (Some (f, b))) is
-    ∙ ap (λ (y : Taken). block_for systems (input_of 1 a) (Some y) ++ tail_of (input_of 1 a) a (Some (y, b))) also

@@ -63,8 +63,8 @@ pub record IsLinked (systems : Systems) (a : List ℕ) (b : Option (List ℕ)) (
   pub claims : IsFile (positions_in a b).total (linked_claims systems a b) file
   pub agree : Agree (linked_claims systems a b)
 
--- the linked file where all rules hold, else the fault of the first that doesn't, unless memory runs out
+-- the linked file where all rules hold, unless memory runs out, else the fault of the first that doesn't
 abbrev pub LinkAnswers : Systems → Result (Vec ℕ Global) LinkFault → List ℕ → Option (List ℕ) → Type 0
 LinkAnswers systems (Ok file) a b = (first_fault_of_both a b ≡ None) × IsLinked systems a b file.items
 LinkAnswers systems (Err (fault.Rule broken)) a b = first_fault_of_both a b ≡ Some broken
-LinkAnswers systems (Err fault.NoMemory) a b = Unit {0}
+LinkAnswers systems (Err fault.NoMemory) a b = first_fault_of_both a b ≡ None
