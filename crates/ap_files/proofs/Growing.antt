@@ -55,12 +55,6 @@ range-added (Some m) input out xs at n apart h m' e =
     let t = h m refl in
     (t.0, ap (λ x. map.get x input) (sym (some_same e)) ∙ stays m input out (bytes_in m out ++ xs) apart ∙ t.1, t.2)
 
-pub range-file : (k : Option FileMap) (input out xs : List ℕ) (at n : ℕ) → input ≢ out → HasRange k input at n → HasRange (with_file k out xs) input at n
-range-file None input out xs at n apart h m e = absurd (not_some e)
-range-file (Some m) input out xs at n apart h m' e =
-    let t = h m refl in
-    (t.0, ap (λ x. map.get x input) (sym (some_same e)) ∙ stays m input out xs apart ∙ t.1, t.2)
-
 -- another file keeps its size
 pub size-added : (k : Option FileMap) (input out xs : List ℕ) (size : ℕ) → input ≢ out → HasSize k input size → HasSize (with_added k out xs) input size
 size-added None input out xs size apart h m e = absurd (not_some e)

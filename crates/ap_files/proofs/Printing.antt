@@ -32,10 +32,3 @@ pub written-more : (old mid new : SinkState) (text : List ℕ) (at n : ℕ) → 
 written-more old mid new text at n below gained w =
     subst (Gains old new) (take_piece text at n (written-below mid new text at n below w))
     (gains-again old mid new (take at text) (take n (take (length text - at) (drop at text))) gained w.count.2)
-
-pub written-broken : (old mid new : SinkState) (text piece : List ℕ) (at : ℕ) (e : Failed) → Gains old mid (take at text) → mid.faults ≡ old.faults
-    → Writes mid new piece (Err e) → Broken old new text
-written-broken old mid new text piece at e gained faults w = record {
-  front = (at, w.failed.0 ∙ gained);
-  rose = subst (λ n. Rose n new.faults) faults w.failed.1;
-}

@@ -1,18 +1,16 @@
 -- The text of areas, one area after the other.
-use Rattle.std.proofs.Common.{◌≡◌, inl, inr, subst, ℕ, ◌+◌, ◌-◌, ◌%◌, ◌<◌, ◌≤◌, true, false, List, [], ◌∷◌, ◌++◌, length, take, drop, get_or, replicate, OnOk, append-nil, Result, Ok, Err, sym, ap, ◌∙◌, arith, append_assoc, zero, suc}
+use Rattle.std.proofs.Common.{◌≡◌, inl, inr, subst, ℕ, ◌+◌, ◌-◌, ◌%◌, ◌<◌, ◌≤◌, true, false, List, ◌∷◌, ◌++◌, length, take, drop, get_or, replicate, sym, ap, ◌∙◌, arith, append_assoc, zero, suc}
 use Rattle.std.proofs.lemmas.Bool.{cond-true, cond-false}
 use Rattle.std.proofs.lemmas.Bool.Decides.{nat_tests}
 use Rattle.std.proofs.lemmas.List.{take-replicate, drop_more}
 use Rattle.ap_fields.specs.Readings.{bytes_in}
 use Rattle.ap_link.specs.Sources.{part_of}
-use Rattle.ap_fields.specs.Bytes.{zeros, listed}
+use Rattle.ap_fields.specs.Bytes.{zeros}
 use Rattle.ap_fields.specs.Granules.{IsGranule, ceil_of}
 use Rattle.ap_check.specs.declared.load.Load.{Load}
 use Rattle.ap_layout.specs.declared.layout.Area.{Area}
 use Rattle.ap_layout.specs.Areas.{content_length, content_of, no_area, end_of, is_new}
-use Rattle.ap_fields.proofs.Bytes.{listed-slice}
 use Rattle.ap_link.specs.Linked.{areas_text}
-use Rattle.ap_link.specs.Nexts.{IsNext, AreNext}
 
 pub text-new : (c g : ℕ) (byte : ℕ → ℕ) (p : Load) (loads : List Load) (a : Area) (areas : List Area) → is_new c a ≡ true
     → areas_text c g byte (p ∷ loads) (a ∷ areas) ≡ (zeros (a.file - c) ++ content_of g byte p) ++ areas_text (end_of a) g byte loads areas
@@ -68,71 +66,6 @@ tail-room g p is =
 pub tail-count : (g n : ℕ) (p : Load) → n ≡ ceil_of (p.vaddr % g + p.filesz) g → n - (p.vaddr % g + p.filesz) ≡ content_length g p - (p.vaddr % g + p.filesz)
 unfolding content_length
 tail-count g n p e = ap (λ x. x - (p.vaddr % g + p.filesz)) e
-
--- the three steps that append an area
-pub area-pushed : {E : Type 0} (g gap left : ℕ) (p : Load) (input old one two three : List ℕ) (r : Result (Unit {0}) E) → p.offset + p.filesz ≤ length input → left ≡ content_length g p - (p.vaddr % g + p.filesz)
-    → one ≡ old ++ zeros (gap + p.vaddr % g) → two ≡ one ++ take (p.offset + p.filesz - p.offset) (drop p.offset input) → OnOk r (three ≡ two ++ zeros left)
-    → OnOk r (three ≡ old ++ (zeros gap ++ content_of g (bytes_in input) p))
-unfolding content_of
-area-pushed g gap left p input old one two three (Err e) fits l e1 e2 e3 = tt
-area-pushed g gap left p input old one two three (Ok x) fits l e1 e2 e3 = e3 ∙ ap (λ n. two ++ zeros n) l ∙ pushed-whole g gap p input old one two fits e1 e2
-  where
-    pushed-whole : (g gap : ℕ) (p : Load) (input old one two : List ℕ) → p.offset + p.filesz ≤ length input → one ≡ old ++ zeros (gap + p.vaddr % g) → two ≡ one ++ take (p.offset + p.filesz - p.offset) (drop p.offset input)
-        → two ++ zeros (content_length g p - (p.vaddr % g + p.filesz)) ≡ old ++ (zeros gap ++ content_of g (bytes_in input) p)
-    pushed-whole g gap p input old one two fits e1 e2 =
-        let skew : ℕ = p.vaddr % g in
-        let part : List ℕ = listed (bytes_in input) p.offset p.filesz in
-        let tail : List ℕ = zeros (content_length g p - (skew + p.filesz)) in
-        let count : p.offset + p.filesz - p.offset ≡ p.filesz = omega arith in
-        let part_is : take (p.offset + p.filesz - p.offset) (drop p.offset input) ≡ part = ap (λ k. take k (drop p.offset input)) count ∙ sym (listed-slice input p.offset p.filesz fits) in
-        ap (λ x. x ++ tail) (e2 ∙ ap (λ x. one ++ x) part_is ∙ ap (λ x. x ++ part) (e1 ∙ ap (λ x. old ++ x) (zeros-add gap skew)))
-        ∙ append_assoc (old ++ (zeros gap ++ zeros skew)) part tail
-        ∙ append_assoc old (zeros gap ++ zeros skew) (part ++ tail)
-        ∙ ap (λ x. old ++ x) (append_assoc (zeros gap) (zeros skew) (part ++ tail))
-
--- ---- areas appended in memory
-
--- some areas are appended, and those that are left lead to the whole
-pub record Pushing (whole : List ℕ) (byte : ℕ → ℕ) (g size end : ℕ) (now : List ℕ) (loads : List Load) (areas : List Area) : Type 0 where
-  pub leads : now ++ areas_text end g byte loads areas ≡ whole
-  pub next : AreNext g size end loads areas
-
-pub pushing-next : (whole : List ℕ) (byte : ℕ → ℕ) (g size end : ℕ) (now : List ℕ) (front rest : List Load) (ahead more : List Area) (p : Load) (a : Area) → front ≡ p ∷ rest → ahead ≡ a ∷ more
-    → Pushing whole byte g size end now front ahead → IsNext g size end p a
-pushing-next whole byte g size end now front rest ahead more p a split split2 h =
-    let next : AreNext g size end (p ∷ rest) (a ∷ more) = subst (λ x. AreNext g size end (p ∷ rest) x) split2 (subst (λ x. AreNext g size end x ahead) split h.next) in
-    next.0
-
-pub pushing-new : (whole : List ℕ) (byte : ℕ → ℕ) (g size end : ℕ) (now then : List ℕ) (front rest : List Load) (ahead more : List Area) (p : Load) (a : Area) → front ≡ p ∷ rest → ahead ≡ a ∷ more → is_new end a ≡ true
-    → then ≡ now ++ (zeros (a.file - end) ++ content_of g byte p) → Pushing whole byte g size end now front ahead → Pushing whole byte g size (end_of a) then rest more
-pushing-new whole byte g size end now then front rest ahead more p a split split2 on made h =
-    let next : AreNext g size end (p ∷ rest) (a ∷ more) = subst (λ x. AreNext g size end (p ∷ rest) x) split2 (subst (λ x. AreNext g size end x ahead) split h.next) in
-    let piece : List ℕ = zeros (a.file - end) ++ content_of g byte p in
-    let tail : List ℕ = areas_text (end_of a) g byte rest more in
-    record {
-      leads = ap (λ x. x ++ tail) made
-          ∙ append_assoc now piece tail
-          ∙ ap (λ x. now ++ x) (sym (text-new end g byte p rest a more on))
-          ∙ ap (λ x. now ++ areas_text end g byte x (a ∷ more)) (sym split)
-          ∙ ap (λ x. now ++ areas_text end g byte front x) (sym split2)
-          ∙ h.leads;
-      next = subst (λ e. AreNext g size e rest more) (cond-true (is_new end a) (end_of a) end on) next.1;
-    }
-
-pub pushing-old : (whole : List ℕ) (byte : ℕ → ℕ) (g size end : ℕ) (now : List ℕ) (front rest : List Load) (ahead more : List Area) (p : Load) (a : Area) → front ≡ p ∷ rest → ahead ≡ a ∷ more → is_new end a ≡ false
-    → Pushing whole byte g size end now front ahead → Pushing whole byte g size end now rest more
-pushing-old whole byte g size end now front rest ahead more p a split split2 off h =
-    let next : AreNext g size end (p ∷ rest) (a ∷ more) = subst (λ x. AreNext g size end (p ∷ rest) x) split2 (subst (λ x. AreNext g size end x ahead) split h.next) in
-    record {
-      leads = ap (λ x. now ++ x) (sym (text-old end g byte p rest a more off))
-          ∙ ap (λ x. now ++ areas_text end g byte x (a ∷ more)) (sym split)
-          ∙ ap (λ x. now ++ areas_text end g byte front x) (sym split2)
-          ∙ h.leads;
-      next = subst (λ e. AreNext g size e rest more) (cond-false (is_new end a) (end_of a) end off) next.1;
-    }
-
-pub pushing-end : (whole : List ℕ) (byte : ℕ → ℕ) (g size end : ℕ) (now : List ℕ) (front : List Load) (ahead : List Area) → front ≡ [] → Pushing whole byte g size end now front ahead → now ≡ whole
-pushing-end whole byte g size end now front ahead none h = sym (append-nil now) ∙ ap (λ x. now ++ areas_text end g byte x ahead) (sym none) ∙ h.leads
 
 -- ---- what is left of the lists
 

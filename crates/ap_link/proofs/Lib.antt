@@ -13,7 +13,6 @@ pub mod LinkedImages
 pub mod PlacedTexts
 pub mod LinkedFiles
 pub mod Building
-pub mod Linking
 pub mod EndsBehind
 pub mod LaidAreas
 pub mod Delivering
@@ -21,5 +20,4 @@ pub mod Handing
 pub mod ClaimedFiles
 pub mod Filling
 pub mod Lending
-
-
+pub mod HeldLemmas

@@ -338,18 +338,3 @@ both-linkable options a (Some b) none =
       second = input_meets 2 b two.0;
       differ = apart-by options (input_of 1 a) (input_of 2 b) (sym (pair-says options a (Some b) (input_of 1 a) (Some (input_of 2 b)) ((one.0, refl), (two.0, refl))) ∙ none);
     }
-
--- the linked file of inputs that break no rule
-pub linked-where : (options : Options) (a : List ℕ) (b : Option (List ℕ)) → first_fault_of_both options a b ≡ None → IsLinked options a b (linked_of options a b)
-linked-where options a b none = file-linked options a b (both-linkable options a b none)
-
--- the file of what was taken of them
-pub linked-one : (options : Options) (a : List ℕ) (e : Taken) → e ≡ input_of 1 a → block_for options e None ++ tail_of e a None ≡ linked_of options a None
-unfolding linked_of
-linked-one options a e is = ap (λ (x : Taken). block_for options x None ++ tail_of x a None) is
-
-pub linked-two : (options : Options) (a b : List ℕ) (e f : Taken) → e ≡ input_of 1 a → f ≡ input_of 2 b → block_for options e (Some f) ++ tail_of e a (Some (f, b)) ≡ linked_of options a (Some b)
-unfolding linked_of
-linked-two options a b e f is also =
-    ap (λ (x : Taken). block_for options x (Some f) ++ tail_of x a (Some (f, b))) is
-    ∙ ap (λ (y : Taken). block_for options (input_of 1 a) (Some y) ++ tail_of (input_of 1 a) a (Some (y, b))) also

@@ -74,8 +74,8 @@ pub record IsLinked (options : Options) (a : List ℕ) (b : Option (List ℕ)) (
   pub claims : IsFile (positions_in options a b).total (linked_claims options a b) file
   pub agree : Agree (linked_claims options a b)
 
--- the linked file where all rules hold, else the fault of the first that doesn't, unless memory runs out
+-- the linked file where all rules hold, unless memory runs out, else the fault of the first that doesn't
 abbrev pub LinkAnswers : Options → Result (Vec ℕ Global) LinkFault → List ℕ → Option (List ℕ) → Type 0
 LinkAnswers options (Ok file) a b = (first_fault_of_both options a b ≡ None) × IsLinked options a b file.items
 LinkAnswers options (Err (fault.Rule broken)) a b = first_fault_of_both options a b ≡ Some broken
-LinkAnswers options (Err fault.NoMemory) a b = Unit {0}
+LinkAnswers options (Err fault.NoMemory) a b = first_fault_of_both options a b ≡ None

@@ -8,3 +8,4 @@ pub mod Images
 pub mod Answers
 pub mod FileAnswers
 pub mod Lent
+pub mod Held

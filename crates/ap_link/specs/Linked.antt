@@ -49,8 +49,3 @@ taken_second (Some b) = Some (input_of 2 b)
 -- the linked file of one or two inputs for some options, by their bytes
 unfoldable pub linked_of : Options → List ℕ → Option (List ℕ) → List ℕ
 linked_of options a b = block_for options (input_of 1 a) (taken_second b) ++ tail_of (input_of 1 a) a (second_of b)
-
--- a second input that is taken, with its bytes
-abbrev pub with_bytes : Option Taken → List ℕ → Option (Taken × List ℕ)
-with_bytes None b = None
-with_bytes (Some e) b = Some (e, b)

@@ -2,12 +2,11 @@
 #![tactic(auto)]
 
 mod areas;
-mod build;
-mod bytes;
 mod copy;
 mod end;
 mod fault;
 mod fill;
+mod held;
 mod image;
 mod laid;
 mod linker;

@@ -16,7 +16,7 @@ use ap_files::Files;
 use ap_layout::place;
 
 /// Links the file `first`, and the file `second` where there is one, into the file `out`, and answers the size of the linked
-/// file in bytes. Which systems it is for stands in the options, of which nothing else is looked at so far.
+/// file in bytes. The options name no Windows, no macOS and no magic for debuggers, which aren't linked for yet.
 ///
 /// Nothing is started before every rule holds. Then the inputs' bytes are read and written in pieces, so that inputs of any
 /// size take no memory of the heap.

@@ -87,16 +87,6 @@ dump-printed old mid new before after format name image d ReadFault h s p = absu
 dump-printed old mid new before after format name image d WriteFault h s p = absurd p
 dump-printed old mid new before after format name image d NoMemory h s p = absurd p
 
-pub dump-bare : (old new : FileState) (sink : SinkState) (format : Format) (name image : List ℕ) (cause : Cause) → PartsAnswer old new format name (Err cause) → DumpEnds old new sink sink format name image cause
-dump-bare old new sink format name image (Unread f) h = (h.0, refl, h.1)
-dump-bare old new sink format name image ReadFault h = (h, refl)
-dump-bare old new sink format name image NoMemory h = (h, refl)
-dump-bare old new sink format name image Done h = absurd h
-dump-bare old new sink format name image (Refused f) h = absurd h
-dump-bare old new sink format name image Usage h = absurd h
-dump-bare old new sink format name image WriteFault h = absurd h
-dump-bare old new sink format name image OutFault h = absurd h
-
 pub dump-unwritten : (old mid new : FileState) (sink : SinkState) (format : Format) (name image : List ℕ) (d : Dumped) → (mid ≡ old) × IsDumped old format name (Ok d)
     → Makes mid new image d.image (Some Write) → DumpEnds old new sink sink format name image WriteFault
 dump-unwritten old mid new sink format name image d h s = (d, subst (λ o. Makes o new image d.image (Some Write)) h.0 s, refl, h.1)
