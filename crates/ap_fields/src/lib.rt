@@ -11,6 +11,3 @@ pub use decimal::put_decimal;
 pub use granule::{ceil_to, floor_to};
 pub use number::{le16, le32, le64, put16, put32, put64};
 pub use sizes::{BLOCK, MOST_LOADS, PE_SPAN, WINDOW};
-
-#[cfg(test)]
-mod tests;

@@ -15,6 +15,3 @@ pub use perms::Perms;
 pub use plan::{Plan, Region};
 pub use reading::{Reading, reads_alike};
 pub use run::{Run, runs};
-
-#[cfg(test)]
-mod tests;
