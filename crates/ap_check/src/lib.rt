@@ -39,6 +39,3 @@ pub use machine::Machine;
 pub use options::{Options, Systems};
 pub use size::check_size;
 pub use symbols::Symbols;
-
-#[cfg(test)]
-mod tests;

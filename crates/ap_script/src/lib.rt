@@ -22,6 +22,3 @@ pub use law::{
 };
 pub use shell::write_script;
 pub use tables::write_tables;
-
-#[cfg(test)]
-mod tests;
