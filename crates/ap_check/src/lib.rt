@@ -36,6 +36,3 @@ pub use load::{Load, taken_loads};
 pub use options::{Options, Systems};
 pub use size::check_size;
 pub use symbols::Symbols;
-
-#[cfg(test)]
-mod tests;

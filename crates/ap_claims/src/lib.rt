@@ -15,6 +15,3 @@ pub use laws::{claims_are_exact, claims_fill_a_block, claims_have_one_file, writ
 pub use mach_view::MachView;
 pub use owner::{Owner, Owners};
 pub use pe_view::PeView;
-
-#[cfg(test)]
-mod tests;

@@ -29,6 +29,3 @@ pub use slice::{locate, symbol, symbols_part};
 pub use strings::stands_in_strings;
 pub use types::{Entry, Header, Located, Tables};
 pub use write::{entry_bytes, header_bytes, tables_are_read_back};
-
-#[cfg(test)]
-mod tests;

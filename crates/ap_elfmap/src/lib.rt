@@ -13,6 +13,3 @@ mod fault; // the first rule that fails
 pub use ap_elf::{ElfCause, ElfFault};
 pub use file::read_with_in;
 pub use reading::{ElfReading, read_with};
-
-#[cfg(test)]
-mod tests;

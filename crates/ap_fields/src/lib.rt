@@ -13,6 +13,3 @@ pub use granule::{ceil_to, floor_to};
 pub use number::{le16, le32, le64, put16, put32, put64};
 pub use perms::Perms;
 pub use sizes::{BLOCK, MOST_LOADS, PE_SPAN, WINDOW};
-
-#[cfg(test)]
-mod tests;

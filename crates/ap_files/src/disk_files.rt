@@ -2,9 +2,6 @@
 ghost use Rattle.std.specs.Prelude.{◌≡◌};
 ghost use Rattle.ap_files.specs.Machine.{no_faults, untold_files};
 
-#[cfg(test)]
-mod tests;
-
 use crate::disk::Disk;
 use crate::failure::count_failure;
 use crate::{Failed, Files};

@@ -4,9 +4,6 @@ ghost use Rattle.ap_files.specs.Sinks.{Writes};
 ghost use Rattle.ap_files.specs.Calls.{count_taken};
 ghost use Rattle.ap_files.specs.MemorySinks.{sink_state_of, empty_sink, CountsWrite, is_write_failing};
 
-#[cfg(test)]
-mod tests;
-
 use crate::calls::{Calls, count_taken};
 use crate::failure::count_failure;
 use crate::{Failed, NoMemory, Sink};

@@ -2,9 +2,6 @@
 ghost use Rattle.std.specs.Prelude.{◌≡◌};
 ghost use Rattle.ap_files.specs.Machine.{untold_stream};
 
-#[cfg(test)]
-mod tests;
-
 use crate::failure::count_failure;
 use crate::{Failed, Sink};
 use std::io::{Print, Stderr, Stdout};

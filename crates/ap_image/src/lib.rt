@@ -14,6 +14,3 @@ pub use image_file::{DumpFault, address_count, dump};
 pub use plan::{MOST_REGIONS, Plan, Region};
 pub use reading::{Reading, reads_alike};
 pub use run::{Run, runs};
-
-#[cfg(test)]
-mod tests;

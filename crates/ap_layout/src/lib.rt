@@ -9,6 +9,3 @@ mod tables;
 pub use layout::{Area, Layout};
 pub use position::{areas_are_apart, place};
 pub use tables::entry_count;
-
-#[cfg(test)]
-mod tests;

@@ -19,6 +19,3 @@ pub use fault::LinkFault;
 pub use image::{ape_is_same, elf_is_same};
 pub use linker::link;
 pub use stream::link_stream;
-
-#[cfg(test)]
-mod tests;

@@ -10,6 +10,3 @@ mod fault; // why a file has no reading
 pub use fault::ApeFault;
 pub use header::embedded;
 pub use reading::ApeReading;
-
-#[cfg(test)]
-mod tests;

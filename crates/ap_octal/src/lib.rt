@@ -14,6 +14,3 @@ pub use law::{octal_texts_are_exact, octal_texts_are_read, statements_are_octal}
 pub use search::statements;
 pub use types::{Decoded, HEADER_SIZE, MOST_STATEMENT};
 pub use write::write_statement;
-
-#[cfg(test)]
-mod tests;

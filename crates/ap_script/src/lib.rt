@@ -24,6 +24,3 @@ pub use law::{
 };
 pub use shell::write_script;
 pub use tables::write_tables;
-
-#[cfg(test)]
-mod tests;

@@ -1,4 +1,0 @@
-use Rattle.ap_elfmap.proofs.tests.alike.Goals as goal
-
-pub returns : goal.returns
-returns c = λ m page. c.reads_alike.ensures.images (record { machine = m; page = page })

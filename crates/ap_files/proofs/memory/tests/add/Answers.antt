@@ -1,5 +1,0 @@
-use Rattle.ap_files.proofs.MemoryLemmas.{seen_unfinished}
-use Rattle.ap_files.proofs.memory.tests.add.Goals as goal
-
-pub add-requires : goal.add-requires
-add-requires c = seen_unfinished c.args.files.now c.args.name.now c.in_ok-bytes.field-0.now c.in_ok-bytes.ensures c.if-not-is_unfinished.ensures
