@@ -17,11 +17,12 @@ use Rattle.ap_script.specs.Blocks.{block_of}
 use Rattle.ap_link.specs.declared.end.LinkEnd.{LinkEnd}
 use Rattle.ap_link.specs.declared.end.LinkEnd.TheVariants as end
 use Rattle.ap_link.specs.declared.source.Source.{Source}
-use Rattle.ap_link.specs.Linked.{block_for, tail_of, second_of, taken_second, linked_of}
+use Rattle.ap_link.specs.Linked.{block_for, tail_of, second_of, taken_second}
+use Rattle.ap_link.specs.LinkedClaims.{linked_of}
 use Rattle.ap_link.specs.Answers.{IsLinked}
 use Rattle.ap_link.specs.FileAnswers.{HasInputs, HasLinkedPart, LinksFiles}
 use Rattle.ap_link.specs.Sources.{second_name, second_taken, second_bytes, second_told, tail_told, AreReadable, IsSource, end_of_fault}
-use Rattle.ap_link.proofs.LinkedFiles.{AreLinkable, apart-by, file-linked, file-length}
+use Rattle.ap_link.proofs.LinkedFiles.{AreLinkable, apart-by, file-linked, file-length, linked-is}
 
 -- ---- what is told of inputs
 
@@ -54,10 +55,6 @@ sources-readable kept first (Some s) out h k apart others = (record { size = h.s
 
 -- ---- inputs that meet all rules
 
-linked-is : (options : Options) (a : List ℕ) (b : Option (List ℕ)) → linked_of options a b ≡ block_for options (input_of 1 a) (taken_second b) ++ tail_of (input_of 1 a) a (second_of b)
-unfolding linked_of
-linked-is options a b = refl
-
 -- what stands of the bytes of such inputs
 pub record IsReady (options : Options) (e : Taken) (second : Option Source) (a : List ℕ) (b : Option (List ℕ)) : Type 0 where
   pub none : first_fault_of_both options a b ≡ None
@@ -70,9 +67,9 @@ one-ready options e a is none =
     let able : AreLinkable (input_of 1 a) None = record { first = input_meets 1 a is.0; second = tt; differ = tt } in
     record {
       none = none;
-      bytes = ap (λ (x : Taken). block_for options x None ++ tail_of x a None) is.1 ∙ sym (linked-is options a None);
+      bytes = ap (λ (x : Taken). block_for options x None ++ tail_of x a None) is.1 ∙ sym (linked-is options a None able);
       linked = file-linked options a None able;
-      size = ap (λ (x : Taken). (positions_of options x None).total) is.1 ∙ sym (file-length options (input_of 1 a) a None able) ∙ sym (ap length (linked-is options a None));
+      size = ap (λ (x : Taken). (positions_of options x None).total) is.1 ∙ sym (file-length options (input_of 1 a) a None able) ∙ sym (ap length (linked-is options a None able));
     }
 
 two-ready : (options : Options) (e : Taken) (s : Source) (a b : List ℕ) → IsTakenOf 1 a e → IsTakenOf 2 b s.input.now → first_fault (pair_rules options e (Some s.input.now)) ≡ None → first_fault_of_both options a (Some b) ≡ None
@@ -89,11 +86,11 @@ two-ready options e s a b is and pair none =
       none = none;
       bytes = ap (λ (x : Taken). block_for options x (Some f) ++ tail_of x a (Some (f, b))) is.1
           ∙ ap (λ (x : Taken). block_for options (input_of 1 a) (Some x) ++ tail_of (input_of 1 a) a (Some (x, b))) and.1
-          ∙ sym (linked-is options a (Some b));
+          ∙ sym (linked-is options a (Some b) able);
       linked = file-linked options a (Some b) able;
       size = ap (λ (x : Taken). (positions_of options x (Some f)).total) is.1
           ∙ ap (λ (x : Taken). (positions_of options (input_of 1 a) (Some x)).total) and.1
-          ∙ sym (file-length options (input_of 1 a) a (Some (input_of 2 b, b)) able) ∙ sym (ap length (linked-is options a (Some b)));
+          ∙ sym (file-length options (input_of 1 a) a (Some (input_of 2 b, b)) able) ∙ sym (ap length (linked-is options a (Some b) able));
     }
 
 ready : (options : Options) (e : Taken) (second : Option Source) (a : List ℕ) (b : Option (List ℕ)) → first_fault (pair_rules options e (second_taken second)) ≡ None → AreTakenOf a b e (second_taken second) → IsReady options e second a b

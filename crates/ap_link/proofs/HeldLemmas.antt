@@ -23,7 +23,7 @@ use Rattle.ap_check.proofs.Pairs.{first-breaks}
 use Rattle.ap_link.specs.declared.end.LinkEnd.{LinkEnd}
 use Rattle.ap_link.specs.declared.end.LinkEnd.TheVariants as end
 use Rattle.ap_link.specs.Held.{one_name, two_name, out_name, two_of, held_files, held_file, held_out, held_state}
-use Rattle.ap_link.specs.Linked.{linked_of}
+use Rattle.ap_link.specs.LinkedClaims.{linked_of}
 use Rattle.ap_link.specs.Answers.{IsLinked}
 use Rattle.ap_link.specs.FileAnswers.{HasInputs, HasSecond, LinksFiles}
 use Rattle.ap_link.specs.Lent.{IsLent, HasLent}

@@ -1,5 +1,5 @@
 -- What a link leaves in the block that was lent to it.
-use Rattle.std.proofs.Common.{◌≡◌, ℕ, List, inr, Option, Some, None, Err, refl, sym, ap, ◌∙◌, subst}
+use Rattle.std.proofs.Common.{◌≡◌, ℕ, List, get_or, inr, Option, Some, None, Err, refl, sym, ap, ◌∙◌, subst}
 use Rattle.std.specs.Prelude.{IfSome}
 use Rattle.ap_fields.specs.FirstFault.{first_fault}
 use Rattle.ap_files.specs.Files.{FileMap}
@@ -16,25 +16,25 @@ use Rattle.ap_files.specs.declared.failure.FileFault.{FileFault}
 use Rattle.ap_files.specs.declared.failure.FileFault.TheVariants.{Read, Write}
 use Rattle.ap_link.specs.declared.end.LinkEnd.{LinkEnd}
 use Rattle.ap_link.specs.declared.source.Source.{Source}
-use Rattle.ap_link.specs.Linked.{tail_of, second_of, taken_second, linked_of}
+use Rattle.ap_link.specs.Linked.{tail_of, second_of, taken_second}
+use Rattle.ap_link.specs.LinkedClaims.{linked_of}
 use Rattle.ap_link.specs.Lent.{IsLent, HasLent, LendsToFiles}
 use Rattle.ap_link.specs.Sources.{second_name, second_taken, IsSource, end_of_fault}
 use Rattle.ap_link.proofs.ClaimedFiles.{bytes-lent, owners-lent}
 use Rattle.ap_link.proofs.Delivering.{inputs-have, sources-taken}
-use Rattle.ap_link.proofs.LinkedFiles.{AreLinkable, both-linkable}
+use Rattle.ap_link.proofs.LinkedFiles.{AreLinkable, both-linkable, linked-is}
 
 -- the block of the inputs that are taken of some bytes
 abbrev IsFilledFor : Options → Taken → Option Taken → BlockState → Type 0
 IsFilledFor options e o block = IsFilled (block_claims options (inputs_of e o) (positions_of options e o)) block
 
 lent-where : (options : Options) (a : List ℕ) (b : Option (List ℕ)) (block : BlockState) → AreLinkable (input_of 1 a) (taken_second b) → IsFilledFor options (input_of 1 a) (taken_second b) block → IsLent options a b block
-unfolding linked_of
 lent-where options a b block able h =
     let e : Taken = input_of 1 a in
     let o : Option Taken = taken_second b in
     let fits = positions-fit options e o able.first able.second in
     record {
-      bytes = λ k low. bytes-lent options (inputs_of e o) (positions_of options e o) (tail_of e a (second_of b)) block k fits h low;
+      bytes = λ k low. bytes-lent options (inputs_of e o) (positions_of options e o) (tail_of e a (second_of b)) block k fits h low ∙ ap (λ w. get_or w k 0) (sym (linked-is options a b able));
       owners = λ k low. owners-lent (block_claims options (inputs_of e o) (positions_of options e o)) e a (second_of b) block k h low;
     }
 

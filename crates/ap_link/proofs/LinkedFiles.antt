@@ -5,7 +5,7 @@ use Rattle.ap_fields.specs.Bytes.{Holds, over}
 use Rattle.ap_fields.specs.Readings.{Cell, MemoryImage, bytes_in}
 use Rattle.ap_fields.specs.declared.sizes.TheConstants.{BLOCK}
 use Rattle.ap_claims.specs.Files.{IsFile}
-use Rattle.ap_claims.proofs.OneFile.{claims-agree}
+use Rattle.ap_claims.proofs.OneFile.{claims-agree, files-made}
 use Rattle.ap_elf.specs.declared.types.Entry.{Entry}
 use Rattle.ap_elf.specs.declared.fault.ElfFault.{ElfFault}
 use Rattle.ap_elf.specs.Fields.{header_of, entries_of, loads_in}
@@ -42,8 +42,8 @@ use Rattle.ap_script.proofs.StatementPlaces.{opens-only, parts-block}
 use Rattle.ap_script.proofs.TakenStatements.{count-places, places-order, taken-block, header_for-input}
 use Rattle.ap_link.specs.Same.{Same, nothing_else}
 use Rattle.ap_link.specs.LinkedIn.{HoldAll, IsLinkedIn}
-use Rattle.ap_link.specs.Linked.{input_text, input_end, tail_of, block_for, second_of, taken_second, linked_of}
-use Rattle.ap_link.specs.LinkedClaims.{linked_claims, tail_claims}
+use Rattle.ap_link.specs.Linked.{input_text, input_end, tail_of, block_for, second_of, taken_second, linked_text}
+use Rattle.ap_link.specs.LinkedClaims.{linked_claims, tail_claims, linked_of}
 use Rattle.ap_link.specs.Answers.{Carries, IsLinked}
 use Rattle.ap_link.proofs.ClaimedFiles.{text-end, whole-claimed}
 use Rattle.ap_link.proofs.LinkedImages.{elf-is-same, ape-is-same}
@@ -269,16 +269,25 @@ taken-with : (b : Option (List ℕ)) → bare-of (second_of b) ≡ taken_second 
 taken-with None = refl
 taken-with (Some x) = refl
 
-pub file-linked : (options : Options) (a : List ℕ) (b : Option (List ℕ)) → AreLinkable (input_of 1 a) (taken_second b) → IsLinked options a b (linked_of options a b)
+-- the file as it is written is the file of its claims
+pub linked-is : (options : Options) (a : List ℕ) (b : Option (List ℕ)) → AreLinkable (input_of 1 a) (taken_second b)
+    → linked_of options a b ≡ block_for options (input_of 1 a) (taken_second b) ++ tail_of (input_of 1 a) a (second_of b)
 unfolding linked_of
-file-linked options a None h =
+linked-is options a None h = sym (files-made (positions_of options (input_of 1 a) None).total (linked_claims options a None) (file-of options (input_of 1 a) a None) (claimed-file options (input_of 1 a) a None h))
+linked-is options a (Some b) h =
+    let o : Option (Taken × List ℕ) = Some (input_of 2 b, b) in
+    sym (files-made (positions_of options (input_of 1 a) (bare-of o)).total (linked_claims options a (Some b)) (file-of options (input_of 1 a) a o) (claimed-file options (input_of 1 a) a o h))
+
+text-linked : (options : Options) (a : List ℕ) (b : Option (List ℕ)) → AreLinkable (input_of 1 a) (taken_second b) → IsLinked options a b (linked_text options a b)
+unfolding linked_text
+text-linked options a None h =
     let e : Taken = input_of 1 a in
     let l : Positions = positions_of options e None in
     let fits = positions-fit options e None h.first h.second in
     let meets = all-meet e None h in
     let differ = machines-differ e None h in
     record {
-      bytes = refl;
+      bytes = sym (linked-is options a None h);
       size = file-length options e a None h;
       body = block-body options (inputs_of e None) l (tail_of e a None);
       zeros = body-zeros options (inputs_of e None) l meets fits;
@@ -289,9 +298,9 @@ file-linked options a None h =
       first = carries options (inputs_of e None) l (tail_of e a None) 1 (tables_start options (inputs_of e None)) a (input_areas e BLOCK) meets differ fits (first-placed options e None) (first-linked options 1 a None h);
       second = tt;
       claims = claimed-file options e a None h;
-      agree = claims-agree l.total (linked_claims options a None) (linked_of options a None) (claimed-file options e a None h);
+      agree = claims-agree l.total (linked_claims options a None) (linked_text options a None) (claimed-file options e a None h);
     }
-file-linked options a (Some b) h =
+text-linked options a (Some b) h =
     let e : Taken = input_of 1 a in
     let f : Taken = input_of 2 b in
     let o : Option (Taken × List ℕ) = Some (f, b) in
@@ -300,7 +309,7 @@ file-linked options a (Some b) h =
     let meets = all-meet e (Some f) h in
     let differ = machines-differ e (Some f) h in
     record {
-      bytes = refl;
+      bytes = sym (linked-is options a (Some b) h);
       size = file-length options e a o h;
       body = block-body options (inputs_of e (Some f)) l (tail_of e a o);
       zeros = body-zeros options (inputs_of e (Some f)) l meets fits;
@@ -313,8 +322,11 @@ file-linked options a (Some b) h =
       second = carries options (inputs_of e (Some f)) l (tail_of e a o) 2 (tables_start options (inputs_of e (Some f)) + table_length e) b (input_areas f (input_end e)) meets differ fits
           (second-placed options e f) (second-linked options 2 e a b h);
       claims = claimed-file options e a o h;
-      agree = claims-agree l.total (linked_claims options a (Some b)) (linked_of options a (Some b)) (claimed-file options e a o h);
+      agree = claims-agree l.total (linked_claims options a (Some b)) (linked_text options a (Some b)) (claimed-file options e a o h);
     }
+
+pub file-linked : (options : Options) (a : List ℕ) (b : Option (List ℕ)) → AreLinkable (input_of 1 a) (taken_second b) → IsLinked options a b (linked_of options a b)
+file-linked options a b h = let made = text-linked options a b h in subst (IsLinked options a b) made.bytes made
 
 -- ---- inputs that break no rule
 

@@ -22,8 +22,8 @@ use Rattle.ap_script.specs.Stands.{HasFreeDelimiter, HasZeros, statement_place, 
 use Rattle.ap_link.specs.declared.fault.LinkFault.{LinkFault}
 use Rattle.ap_link.specs.declared.fault.LinkFault.TheVariants as fault
 use Rattle.ap_link.specs.Same.{Same, nothing_else}
-use Rattle.ap_link.specs.Linked.{linked_of, taken_second}
-use Rattle.ap_link.specs.LinkedClaims.{linked_claims}
+use Rattle.ap_link.specs.Linked.{taken_second}
+use Rattle.ap_link.specs.LinkedClaims.{linked_claims, linked_of}
 
 -- the inputs that are taken, and the positions of their linked file
 abbrev pub inputs_in : List ℕ → Option (List ℕ) → List Taken

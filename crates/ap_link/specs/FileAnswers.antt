@@ -10,7 +10,7 @@ use Rattle.ap_check.specs.Rules.{first_fault_of}
 use Rattle.ap_check.specs.Both.{first_fault_of_both}
 use Rattle.ap_link.specs.declared.end.LinkEnd.{LinkEnd}
 use Rattle.ap_link.specs.declared.end.LinkEnd.TheVariants.{Rule, ReadFault, WriteFault}
-use Rattle.ap_link.specs.Linked.{linked_of}
+use Rattle.ap_link.specs.LinkedClaims.{linked_of}
 use Rattle.ap_link.specs.Answers.{IsLinked}
 
 -- where files are told, the second input is there, where there is one, and its bytes have a property

@@ -10,8 +10,7 @@ use Rattle.ap_link.specs.declared.end.LinkEnd.{LinkEnd}
 use Rattle.ap_link.specs.declared.end.LinkEnd.TheVariants as end
 use Rattle.ap_link.specs.declared.fault.LinkFault.{LinkFault}
 use Rattle.ap_link.specs.declared.fault.LinkFault.TheVariants as fault
-use Rattle.ap_link.specs.Linked.{linked_of}
-use Rattle.ap_link.specs.LinkedClaims.{linked_claims}
+use Rattle.ap_link.specs.LinkedClaims.{linked_claims, linked_of}
 use Rattle.ap_link.specs.FileAnswers.{HasInputs}
 
 -- each byte of the block is the linked file's at that place, and its owners are those of the file's claims that have the place

@@ -1,4 +1,5 @@
--- The linked file of one or two inputs: the block, and behind it the areas of the inputs' loads.
+-- The linked file of one or two inputs as it is written, a word of proofs: the block, and behind it the areas of the inputs'
+-- loads. What the file is say its claims (LinkedClaims).
 use Rattle.std.specs.Prelude.{ℕ, ◌-◌, if◌then◌else◌, List, [], ◌∷◌, ◌++◌, Option, Some, None}
 use Rattle.ap_fields.specs.Bytes.{zeros}
 use Rattle.ap_fields.specs.Readings.{bytes_in}
@@ -46,6 +47,6 @@ abbrev pub taken_second : Option (List ℕ) → Option Taken
 taken_second None = None
 taken_second (Some b) = Some (input_of 2 b)
 
--- the linked file of one or two inputs for some options, by their bytes
-unfoldable pub linked_of : Options → List ℕ → Option (List ℕ) → List ℕ
-linked_of options a b = block_for options (input_of 1 a) (taken_second b) ++ tail_of (input_of 1 a) a (second_of b)
+-- the block, and what stands behind it
+unfoldable pub linked_text : Options → List ℕ → Option (List ℕ) → List ℕ
+linked_text options a b = block_for options (input_of 1 a) (taken_second b) ++ tail_of (input_of 1 a) a (second_of b)

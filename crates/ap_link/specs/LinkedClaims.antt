@@ -1,9 +1,10 @@
--- The claims of a linked file: those of its block, and each area that has bytes.
+-- The linked file of one or two inputs is the file of its claims: those of its block, and each area that has bytes.
 use Rattle.std.specs.Prelude.{ℕ, ◌==◌, if◌then◌else◌, List, [], ◌∷◌, ◌++◌, Option, Some, None}
 use Rattle.ap_fields.specs.Readings.{bytes_in}
 use Rattle.ap_fields.specs.declared.sizes.TheConstants.{BLOCK}
 use Rattle.ap_claims.specs.declared.owner.Owner.TheVariants as owner
 use Rattle.ap_claims.specs.Lists.{Claim}
+use Rattle.ap_claims.specs.Files.{file_of}
 use Rattle.ap_check.specs.declared.load.Load.{Load}
 use Rattle.ap_check.specs.declared.options.Options.{Options}
 use Rattle.ap_elf.specs.Machines.{granule_of}
@@ -35,3 +36,7 @@ abbrev pub linked_claims : Options → List ℕ → Option (List ℕ) → List C
 linked_claims options a b =
     block_claims options (inputs_of (input_of 1 a) (taken_second b)) (positions_of options (input_of 1 a) (taken_second b))
     ++ tail_claims (input_of 1 a) a (second_of b)
+
+-- the linked file of one or two inputs, by the options and their bytes
+unfoldable pub linked_of : Options → List ℕ → Option (List ℕ) → List ℕ
+linked_of options a b = file_of (positions_of options (input_of 1 a) (taken_second b)).total (linked_claims options a b)
