@@ -21,5 +21,4 @@ pub mod Handing
 pub mod ClaimedFiles
 pub mod Filling
 pub mod Lending
-
-
+pub mod TakenStatements

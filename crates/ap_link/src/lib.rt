@@ -10,6 +10,7 @@ mod fault;
 mod fill;
 mod image;
 mod laid;
+mod law;
 mod linker;
 mod source;
 mod stream;
@@ -18,6 +19,7 @@ mod write;
 pub use end::LinkEnd;
 pub use fault::LinkFault;
 pub use image::{ape_is_same, elf_is_same};
+pub use law::{blocks_have_magic, statements_are_taken};
 pub use linker::link;
 pub use stream::link_stream;
 

@@ -1,8 +1,8 @@
 -- The parts of the script: how long they are, and where quotes stand in them.
 use Rattle.std.proofs.Common.{◌≡◌, ◌≢◌, inl, inr, ℕ, zero, suc, ◌+◌, ◌*◌, ◌-◌, ◌/◌, ◌%◌, ◌^◌, ◌≤◌, ◌<◌, ◌==◌, ◌&&◌, not, cond, Bool, true, false, List, [], ◌∷◌, ◌++◌, length, get_or, nat_lt, Option, Some, None, refl, sym, ap, ◌∙◌, arith, length-append, append_assoc, subst}
-use Rattle.std.specs.Prelude.{codes, IfSome}
+use Rattle.std.specs.Prelude.{codes, IfSome, nat_eq}
 use Rattle.std.specs.Int.{byte_at, bytes_low_first}
-use Rattle.std.specs.List.{flat_map}
+use Rattle.std.specs.List.{flat_map, starts_with}
 use Rattle.std.specs.Option.{is_some}
 use Rattle.std.specs.Fmt.{decimal}
 use Rattle.std.proofs.lemmas.Bool.{cases_lt}
@@ -12,7 +12,6 @@ use Rattle.std.proofs.lemmas.Fmt.{decimal_by_steps, length-decimal-le}
 use Rattle.ap_fields.specs.Fields.{bytes_of, number_at}
 use Rattle.ap_elf.specs.Written.{header_bytes}
 use Rattle.ap_octal.specs.Statement.{is_letter, octal_of, octals_of, statement_of}
-use Rattle.ap_loader.specs.Embedded.{begins_header}
 use Rattle.ap_check.specs.declared.options.Systems.{Systems}
 use Rattle.ap_elf.specs.declared.machine.Machine.{Machine}
 use Rattle.ap_elf.specs.declared.machine.Machine.TheVariants.{X64, A64}
@@ -99,15 +98,16 @@ embedded-number : (e : Taken) (t : ℕ) → number_at 2 18 (embedded_bytes e t) 
 unfolding number_at header_bytes embedded_header bytes_of
 embedded-number e t = two-bytes (number_of e.machine) (machine-small e.machine)
 
-embedded-begins : (e : Taken) (t n : ℕ) → begins_header n (embedded_bytes e t) ≡ (number_of e.machine == n)
+embedded-begins : (e : Taken) (t : ℕ) → starts_with nat_eq (embedded_bytes e t) (127 ∷ 69 ∷ 76 ∷ 70 ∷ 2 ∷ 1 ∷ []) ≡ true
 unfolding header_bytes embedded_header
-embedded-begins e t n = ap (λ x. x == n) (embedded-number e t)
+embedded-begins e t = refl
 
 -- what a header for a machine is
 pub record IsHeader (m : Machine) (header : List ℕ) : Type 0 where
   pub long : length header ≡ 64
   pub bytes : (k : ℕ) → get_or header k 0 < 256
-  pub begins : (n : ℕ) → begins_header n header ≡ (number_of m == n)
+  pub begins : starts_with nat_eq header (127 ∷ 69 ∷ 76 ∷ 70 ∷ 2 ∷ 1 ∷ []) ≡ true
+  pub number : number_at 2 18 header ≡ number_of m
 
 pub is_machine-same : (m n : Machine) → is_machine m n ≡ true → m ≡ n
 is_machine-same X64 X64 h = refl
@@ -119,7 +119,8 @@ is-header : (m : Machine) (e : Taken) (t : ℕ) → m ≡ e.machine → IsHeader
 is-header m e t same = record {
   long = length-embedded e t;
   bytes = bytes-embedded e t;
-  begins = λ n. embedded-begins e t n ∙ ap (λ k. number_of k == n) (sym same);
+  begins = embedded-begins e t;
+  number = embedded-number e t ∙ ap number_of (sym same);
 }
 
 header-by : (b : Bool) (m : Machine) (e : Taken) (t : ℕ) (later : Option (List ℕ)) → (b ≡ true → m ≡ e.machine) → IfSome later (IsHeader m) → IfSome (cond b (Some (embedded_bytes e t)) later) (IsHeader m)
