@@ -57,10 +57,10 @@ header-there options inputs l rest n m header fits is =
 
 -- in front of the x86-64 statement there is none
 before-x64 : (options : Options) (inputs : List Taken) (l : Positions) (rest : List ℕ) (j : ℕ) → All Meets inputs → Fits options inputs l
-    → j < statement_place options inputs l X64 → header_at 62 (take WINDOW (block_of options inputs l ++ rest)) j ≡ None
+    → j < statement_place options inputs l X64 → header_at (number_of X64) (take WINDOW (block_of options inputs l ++ rest)) j ≡ None
 before-x64 options inputs l rest j meets fits low =
     let ascend = places-order options inputs l in
-    header_at-closed 62 (block_of options inputs l ++ rest) j (λ o.
+    header_at-closed (number_of X64) (block_of options inputs l ++ rest) j (λ o.
     elim (contained (header_for X64 (placed_inputs inputs l)) (header_for A64 (placed_inputs inputs l)) (machines_start options inputs l) j (opens-places options inputs l rest j meets fits o)) [
       | inl (h, some, at) ↦ omega arith
       | inr (h, some, at) ↦ omega arith
@@ -68,18 +68,18 @@ before-x64 options inputs l rest j meets fits low =
 
 -- in front of the AArch64 statement there is at most the x86-64 one, which is for another machine
 before-a64 : (options : Options) (inputs : List Taken) (l : Positions) (rest : List ℕ) (j : ℕ) → All Meets inputs → Fits options inputs l
-    → j < statement_place options inputs l A64 → header_at 183 (take WINDOW (block_of options inputs l ++ rest)) j ≡ None
+    → j < statement_place options inputs l A64 → header_at (number_of A64) (take WINDOW (block_of options inputs l ++ rest)) j ≡ None
 before-a64 options inputs l rest j meets fits low =
     let file = block_of options inputs l ++ rest in
     elim (which (header_for X64 (placed_inputs inputs l))) [
-      | inr none ↦ header_at-closed 183 file j (λ o.
+      | inr none ↦ header_at-closed (number_of A64) file j (λ o.
           elim (contained (header_for X64 (placed_inputs inputs l)) (header_for A64 (placed_inputs inputs l)) (machines_start options inputs l) j (opens-places options inputs l rest j meets fits o)) [
             | inl (h, some, at) ↦ none h some
             | inr (h, some, at) ↦ omega arith
           ])
       | inl (first, is) ↦ elim (same_or j (statement_place options inputs l X64)) [
-        | inl here ↦ ap (header_at 183 (take WINDOW file)) here ∙ header-there options inputs l rest 183 X64 first fits is
-        | inr other ↦ header_at-closed 183 file j (λ o.
+        | inl here ↦ ap (header_at (number_of A64) (take WINDOW file)) here ∙ header-there options inputs l rest (number_of A64) X64 first fits is
+        | inr other ↦ header_at-closed (number_of A64) file j (λ o.
             elim (contained (header_for X64 (placed_inputs inputs l)) (header_for A64 (placed_inputs inputs l)) (machines_start options inputs l) j (opens-places options inputs l rest j meets fits o)) [
               | inl (h, some, at) ↦ other at
               | inr (h, some, at) ↦ omega arith
@@ -103,12 +103,12 @@ pub taken-block : (options : Options) (inputs : List Taken) (l : Positions) (res
 taken-block options inputs l rest X64 header meets fits is =
     let file = block_of options inputs l ++ rest in
     let place : ℕ = statement_place options inputs l X64 in
-    taken-some 62 file header place (block-magic options inputs l rest) (opens-within file place (opens-block options inputs l rest X64 header fits is)) (header-there options inputs l rest 62 X64 header fits is)
+    taken-some (number_of X64) file header place (block-magic options inputs l rest) (opens-within file place (opens-block options inputs l rest X64 header fits is)) (header-there options inputs l rest (number_of X64) X64 header fits is)
     (λ j low. before-x64 options inputs l rest j meets fits low)
 taken-block options inputs l rest A64 header meets fits is =
     let file = block_of options inputs l ++ rest in
     let place : ℕ = statement_place options inputs l A64 in
-    taken-some 183 file header place (block-magic options inputs l rest) (opens-within file place (opens-block options inputs l rest A64 header fits is)) (header-there options inputs l rest 183 A64 header fits is)
+    taken-some (number_of A64) file header place (block-magic options inputs l rest) (opens-within file place (opens-block options inputs l rest A64 header fits is)) (header-there options inputs l rest (number_of A64) A64 header fits is)
     (λ j low. before-a64 options inputs l rest j meets fits low)
 
 -- ---- other machines

@@ -3,6 +3,7 @@ use Rattle.std.proofs.Common.{◌≡◌, ℕ, ◌+◌, ◌-◌, ◌/◌, ◌≤�
 use Rattle.std.specs.Prelude.{codes}
 use Rattle.std.proofs.lemmas.List.{take-replicate}
 use Rattle.ap_fields.specs.declared.sizes.TheConstants.{WINDOW}
+use Rattle.ap_octal.specs.declared.types.TheConstants.{MOST_STATEMENT}
 use Rattle.ap_elf.specs.declared.machine.Machine.{Machine}
 use Rattle.ap_elf.specs.declared.machine.Machine.TheVariants.{X64, A64}
 use Rattle.ap_check.specs.declared.options.Systems.{Systems}
@@ -25,8 +26,8 @@ pub closing-next : (old a b c word : List ℕ) (number : ℕ) → a ≡ old ++ c
 unfolding closing
 closing-next old a b c word number first is second third = three-pieces old a b c (codes "\n") (delimiter number) (codes "\n") first (second ∙ ap (λ w. a ++ w) is) third
 
--- there is room for a statement of 265 bytes behind where a machine's begins
-pub place-room : (options : Options) (inputs : List Taken) (l : Positions) (m : Machine) → Fits options inputs l → statement_place options inputs l m + 265 ≤ WINDOW
+-- there is room for the longest statement behind where a machine's begins
+pub place-room : (options : Options) (inputs : List Taken) (l : Positions) (m : Machine) → Fits options inputs l → statement_place options inputs l m + MOST_STATEMENT ≤ WINDOW
 place-room options inputs l X64 fits =
     let body = fits.body in
     let a = length-script_start in

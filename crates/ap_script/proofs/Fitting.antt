@@ -12,6 +12,7 @@ use Rattle.ap_elf.specs.Machines.{granule_of}
 use Rattle.ap_check.specs.declared.options.Options.{Options}
 use Rattle.ap_check.specs.Inputs.{Taken, Meets, AreLoads}
 use Rattle.ap_layout.specs.declared.layout.Area.{Area}
+use Rattle.ap_layout.specs.declared.sizes.TheConstants.{MOST_BODY, FILE_TOP}
 use Rattle.ap_layout.specs.Areas.{end_from, after, new_areas, ServeAll}
 use Rattle.ap_layout.specs.Positions.{Positions, PlacedInput, Fits, AreServed, AreTables, tables_start, table_length, placed, placed_inputs, only_inputs, all_areas, inputs_of}
 use Rattle.ap_script.specs.Places.{IsKnown, Placed}
@@ -39,7 +40,7 @@ loads-tops g size low (p ∷ loads) h =
     cons-all (λ p. p.vaddr + p.filesz ≤ 2 ^ 47) p loads (omega arith) (loads-tops g size (ceil_of (p.vaddr + p.memsz) g) loads h.1)
 
 -- an input and its areas
-pub placed-input : (e : Taken) (g : ℕ) (loads : List Load) (areas : List Area) → Meets e → length areas ≡ length e.loads → All (λ x. x.file < 2 ^ 31) areas
+pub placed-input : (e : Taken) (g : ℕ) (loads : List Load) (areas : List Area) → Meets e → length areas ≡ length e.loads → All (λ x. x.file < FILE_TOP) areas
     → g ≡ granule_of e.machine → loads ≡ e.loads → Placed g loads areas
 placed-input e g loads areas m same places g_is loads_is = record {
   granule = subst IsGranule (sym g_is) (is-granule e.machine);
@@ -75,7 +76,7 @@ back-all n [] ys h = h
 back-all n (x ∷ xs) ys h = back-all n xs ys (rest-all (λ x. x.file < n) x (xs ++ ys) h)
 
 -- each input of some is known, where all of them are served
-known-all : (news : List Area) (at end : ℕ) (ps : List PlacedInput) → AreServed news ps → AreTables at ps end → end ≤ 3568 → All (λ x. x.file < 2 ^ 31) (all_areas ps) → All IsKnown ps
+known-all : (news : List Area) (at end : ℕ) (ps : List PlacedInput) → AreServed news ps → AreTables at ps end → end ≤ MOST_BODY → All (λ x. x.file < FILE_TOP) (all_areas ps) → All IsKnown ps
 known-all news at end [] served tables low below = none-all IsKnown
 known-all news at end (p ∷ ps) served tables low below =
     let behind = tables-behind (at + table_length p.input) end ps tables.1 in
@@ -83,10 +84,10 @@ known-all news at end (p ∷ ps) served tables low below =
     cons-all IsKnown p ps
     (record {
       same = serve-same (granule_of p.input.machine) news p.input.loads p.areas served.0;
-      places = front-all (2 ^ 31) p.areas (all_areas ps) below;
+      places = front-all FILE_TOP p.areas (all_areas ps) below;
       table = omega arith;
     })
-    (known-all news (at + table_length p.input) end ps served.1 tables.1 low (back-all (2 ^ 31) p.areas (all_areas ps) below))
+    (known-all news (at + table_length p.input) end ps served.1 tables.1 low (back-all FILE_TOP p.areas (all_areas ps) below))
   where
     tables-behind : (at end : ℕ) (ps : List PlacedInput) → AreTables at ps end → at ≤ end
     tables-behind at end [] tables = (let is : end ≡ at = tables in omega arith)
@@ -97,7 +98,7 @@ fits-known options inputs l fits =
     let ps = placed_inputs inputs l in
     let total = fits.total in
     let small = fits.small in
-    known-all (new_areas BLOCK (all_areas ps)) (tables_start options inputs) l.body_end ps fits.areas fits.tables fits.body (areas-below BLOCK (2 ^ 31) (all_areas ps) (omega arith))
+    known-all (new_areas BLOCK (all_areas ps)) (tables_start options inputs) l.body_end ps fits.areas fits.tables fits.body (areas-below BLOCK FILE_TOP (all_areas ps) (omega arith))
 
 -- ---- the inputs of a job
 

@@ -21,6 +21,7 @@ use Rattle.ap_elf.specs.Machines.{granule_of}
 use Rattle.ap_check.specs.declared.options.Options.{Options}
 use Rattle.ap_check.specs.Inputs.{Taken, IsLoad, AreLoads, IsTls, Meets, has_part, in_part, is_note}
 use Rattle.ap_layout.specs.declared.layout.Area.{Area}
+use Rattle.ap_layout.specs.declared.sizes.TheConstants.{FILE_TOP}
 use Rattle.ap_layout.specs.Areas.{end_of, after, end_from, is_new, new_areas, Among, Serves, ServeAll}
 use Rattle.ap_layout.specs.Positions.{Positions, Fits, entry_count, PlacedInput, AreServed, all_areas, only_inputs, placed_inputs}
 use Rattle.ap_script.specs.Tables.{load_entry, load_entries, stack_entries, is_backed, place_of, note_entry, tls_entries, table_of, table_text}
@@ -89,16 +90,16 @@ eighths-table (p ∷ entries) h = eighths-append 7 (entry_bytes p) (flat_map ent
 
 abbrev pub AreLow : List Area → Type 0
 AreLow [] = Unit {0}
-AreLow (a ∷ areas) = (a.file < 2 ^ 31) × AreLow areas
+AreLow (a ∷ areas) = (a.file < FILE_TOP) × AreLow areas
 
 abbrev pub NewsLow : List Area → Type 0
-NewsLow news = (a : Area) → Among a news → a.file < 2 ^ 31
+NewsLow news = (a : Area) → Among a news → a.file < FILE_TOP
 
 zero_or : (n : ℕ) → (n ≡ 0) ⊎ (0 < n)
 zero_or zero = inl refl
 zero_or (suc n) = inr (omega arith)
 
-low-area : (g : ℕ) (news : List Area) (p : Load) (a : Area) → NewsLow news → Serves g news p a → a.file < 2 ^ 31
+low-area : (g : ℕ) (news : List Area) (p : Load) (a : Area) → NewsLow news → Serves g news p a → a.file < FILE_TOP
 low-area g news p a low s =
     elim (zero_or p.filesz) [
       | inl none ↦ (let e : a.file ≡ 0 = ap (λ (x : Area). x.file) (s.bare none) in omega arith)
@@ -174,7 +175,7 @@ in_part-top g size low a count (p ∷ loads) are h =
       | inr later ↦ in_part-top g size (ceil_of (p.vaddr + p.memsz) g) a count loads are.1 later
     ]
 
-place-here : (g size low a : ℕ) (p : Load) (x : Area) → IsLoad g size low p → x.file < 2 ^ 31 → is_backed p a ≡ true → x.file + (a - floor_of p.vaddr g) < 256 ^ 7
+place-here : (g size low a : ℕ) (p : Load) (x : Area) → IsLoad g size low p → x.file < FILE_TOP → is_backed p a ≡ true → x.file + (a - floor_of p.vaddr g) < 256 ^ 7
 place-here g size low a p x is file backed =
     let below : a < p.vaddr + p.filesz = grind (arith, nat_tests, (split_and (nat_le p.vaddr a) (nat_lt a (p.vaddr + p.filesz)) backed).1) in
     let sizes = is.sizes in
@@ -192,7 +193,7 @@ place-short g size low a (p ∷ loads) (x ∷ areas) are lows =
     short-by (is_backed p a) (x.file + (a - floor_of p.vaddr g)) (place_of g loads areas a) (place-here g size low a p x are.0 lows.0)
     (place-short g size (ceil_of (p.vaddr + p.memsz) g) a loads areas are.1 lows.1)
 
-short-load : (m : Machine) (size low : ℕ) (p : Load) (x : Area) → IsLoad (granule_of m) size low p → x.file < 2 ^ 31 → IsShort (load_entry (granule_of m) p x)
+short-load : (m : Machine) (size low : ℕ) (p : Load) (x : Area) → IsLoad (granule_of m) size low p → x.file < FILE_TOP → IsShort (load_entry (granule_of m) p x)
 short-load m size low p x is file =
     let part = low-part m p.vaddr in
     let granule = granule-low m in

@@ -5,9 +5,11 @@ ghost use Rattle.ap_fields.specs.Bytes.{Holds};
 ghost use Rattle.ap_octal.specs.Embedded.{Opens, Embeds};
 ghost use Rattle.ap_octal.specs.Statement.{octals_of, statement_of};
 ghost use Rattle.ap_check.specs.declared.options.Options.{Options};
+ghost use Rattle.ap_elf.specs.declared.constants.TheConstants.{EHDR_SIZE};
 ghost use Rattle.ap_elf.specs.declared.machine.Machine.TheVariants.{X64, A64};
 ghost use Rattle.ap_elf.specs.Machines.{granule_of};
 ghost use Rattle.ap_check.specs.Inputs.{Taken, Meets};
+ghost use Rattle.ap_layout.specs.declared.sizes.TheConstants.{OPENING};
 ghost use Rattle.ap_layout.specs.declared.layout.Area.{Area};
 ghost use Rattle.ap_layout.specs.Areas.{ServeAll};
 ghost use Rattle.ap_layout.specs.Positions.{Positions, PlacedInput, placed_inputs, Fits, table_length};
@@ -19,13 +21,13 @@ ghost use Rattle.ap_script.specs.Stands.{MachinesDiffer, IsOneOf, HoldsTables, H
 
 /// An embedded header has 64 bytes, and a program header table 56 for each of its entries.
 pub fn headers_have_lengths()
-    ensures header { (e : Taken) (t : ℕ) → length (embedded_bytes e t) ≡ 64 }
+    ensures header { (e : Taken) (t : ℕ) → length (embedded_bytes e t) ≡ EHDR_SIZE }
     ensures table { (news areas : List Area) (e : Taken) → ServeAll (granule_of e.machine) news e.loads areas → length (table_text e areas) ≡ table_length e }
 {}
 
 /// A block has 16384 bytes, and the here-document and the script end in its first half.
 pub fn blocks_have_lengths()
-    ensures body { (options : Options) (inputs : List Taken) (l : Positions) → Fits options inputs l → 86 + length (body_of options inputs l) ≡ l.body_end }
+    ensures body { (options : Options) (inputs : List Taken) (l : Positions) → Fits options inputs l → OPENING + length (body_of options inputs l) ≡ l.body_end }
     ensures text { (options : Options) (inputs : List Taken) (l : Positions) → Fits options inputs l → length (shell_text options inputs l) ≤ WINDOW }
     ensures block { (options : Options) (inputs : List Taken) (l : Positions) → Fits options inputs l → length (block_of options inputs l) ≡ BLOCK }
 {}
@@ -39,7 +41,7 @@ pub fn blocks_are_claimed()
 /// body from 86 on and each program header table at its place.
 pub fn blocks_hold_tables()
     ensures begins { (options : Options) (inputs : List Taken) (l : Positions) (rest : List ℕ) → Holds (block_of options inputs l ++ rest) 0 (codes "jartsr='") }
-    ensures body { (options : Options) (inputs : List Taken) (l : Positions) (rest : List ℕ) → Holds (block_of options inputs l ++ rest) 86 (body_of options inputs l) }
+    ensures body { (options : Options) (inputs : List Taken) (l : Positions) (rest : List ℕ) → Holds (block_of options inputs l ++ rest) OPENING (body_of options inputs l) }
     ensures tables { (options : Options) (inputs : List Taken) (l : Positions) (rest : List ℕ) → Fits options inputs l → HoldsTables (block_of options inputs l ++ rest) (placed_inputs inputs l) }
 {}
 
