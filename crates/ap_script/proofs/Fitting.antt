@@ -1,12 +1,10 @@
 -- What the positions of a linked file that fit its inputs give to those who write program headers.
-use Rattle.std.proofs.Common.{inl, inr, ◌≡◌, ℕ, suc, ◌+◌, ◌<◌, ◌≤◌, List, [], ◌∷◌, ◌++◌, length, zero, Option, Some, None, refl, ap, ◌∙◌, sym, map, get_or, drop, subst, arith}
+use Rattle.std.proofs.Common.{◌≡◌, ℕ, suc, ◌+◌, ◌<◌, ◌≤◌, List, [], ◌∷◌, ◌++◌, length, zero, Option, Some, None, refl, ap, ◌∙◌, sym, map, get_or, drop, subst, arith}
 use Rattle.std.specs.Prelude.{◌^◌, All}
 use Rattle.std.proofs.lemmas.List.{drop_all, length-map}
 use Rattle.arrayvec.specs.ArrayVec.{ArrayVec}
 use Rattle.ap_fields.specs.Granules.{IsGranule, ceil_of}
 use Rattle.ap_fields.specs.declared.sizes.TheConstants.{BLOCK}
-use Rattle.ap_elf.specs.declared.machine.Machine.{Machine}
-use Rattle.ap_elf.specs.declared.machine.Machine.TheVariants.{X64, A64}
 use Rattle.ap_check.specs.declared.load.Load.{Load}
 use Rattle.ap_elf.specs.Machines.{granule_of}
 use Rattle.ap_check.specs.declared.options.Options.{Options}
@@ -15,11 +13,9 @@ use Rattle.ap_layout.specs.declared.layout.Area.{Area}
 use Rattle.ap_layout.specs.declared.sizes.TheConstants.{MOST_BODY, FILE_TOP}
 use Rattle.ap_layout.specs.Areas.{end_from, after, new_areas, ServeAll}
 use Rattle.ap_layout.specs.Positions.{Positions, PlacedInput, Fits, AreServed, AreTables, tables_start, table_length, placed, placed_inputs, only_inputs, all_areas, inputs_of}
+use Rattle.ap_layout.proofs.Rounded.{granule_of-is}
+use Rattle.ap_layout.proofs.NewAreas.{end-least}
 use Rattle.ap_script.specs.Places.{IsKnown, Placed}
-
-is-granule : (m : Machine) → IsGranule (granule_of m)
-is-granule X64 = inl refl
-is-granule A64 = inr refl
 
 module _ {X : Type 0} (P : X → Type 0) where
   none-all : All P []
@@ -43,7 +39,7 @@ loads-tops g size low (p ∷ loads) h =
 pub placed-input : (e : Taken) (g : ℕ) (loads : List Load) (areas : List Area) → Meets e → length areas ≡ length e.loads → All (λ x. x.file < FILE_TOP) areas
     → g ≡ granule_of e.machine → loads ≡ e.loads → Placed g loads areas
 placed-input e g loads areas m same places g_is loads_is = record {
-  granule = subst IsGranule (sym g_is) (is-granule e.machine);
+  granule = subst IsGranule (sym g_is) (granule_of-is e.machine);
   same = same ∙ ap length (sym loads_is);
   tops = subst (λ l. All (λ p. p.vaddr + p.filesz ≤ 2 ^ 47) l) (sym loads_is) (loads-tops (granule_of e.machine) e.size 0 e.loads m.loads);
   places = places;
@@ -56,15 +52,11 @@ serve-same g news [] (a ∷ areas) h = absurd h
 serve-same g news (p ∷ loads) [] h = absurd h
 serve-same g news (p ∷ loads) (a ∷ areas) h = ap (λ n. suc n) (serve-same g news loads areas h.1)
 
-end_from-grows : (c : ℕ) (areas : List Area) → c ≤ end_from c areas
-end_from-grows c [] = omega arith
-end_from-grows c (a ∷ areas) = let r = end_from-grows (after c a) areas in omega arith
-
 -- an area begins below the end
 areas-below : (c n : ℕ) (areas : List Area) → end_from c areas < n → All (λ x. x.file < n) areas
 areas-below c n [] h = none-all (λ x. x.file < n)
 areas-below c n (a ∷ areas) h =
-    let r = end_from-grows (after c a) areas in
+    let r = end-least (after c a) areas in
     cons-all (λ x. x.file < n) a areas (omega arith) (areas-below (after c a) n areas h)
 
 front-all : (n : ℕ) (xs ys : List Area) → All (λ x. x.file < n) (xs ++ ys) → All (λ x. x.file < n) xs

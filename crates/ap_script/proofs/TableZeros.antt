@@ -1,9 +1,9 @@
 -- Each eighth byte of a program header table is zero.
-use Rattle.std.proofs.Common.{◌≡◌, ◌⊎◌, inl, inr, ℕ, zero, suc, ◌+◌, ◌*◌, ◌-◌, ◌/◌, ◌%◌, ◌^◌, ◌≤◌, ◌<◌, ◌==◌, ◌&&◌, ◌||◌, not, cond, Bool, true, false, List, [], ◌∷◌, ◌++◌, length, map, get_or, refl, sym, ap, ◌∙◌, subst, arith, Option, Some, None, nat_le, nat_lt}
+use Rattle.std.proofs.Common.{◌≡◌, ◌⊎◌, inl, inr, ℕ, zero, suc, ◌+◌, ◌*◌, ◌-◌, ◌/◌, ◌%◌, ◌^◌, ◌≤◌, ◌<◌, ◌==◌, ◌&&◌, not, cond, Bool, true, false, List, [], ◌∷◌, ◌++◌, length, map, get_or, refl, sym, ap, ◌∙◌, subst, arith, Option, Some, None, nat_le, nat_lt}
 use Rattle.std.specs.Prelude.{All, IfSome, bit_and}
 use Rattle.std.specs.Int.{byte_at}
 use Rattle.std.specs.List.{flat_map}
-use Rattle.std.proofs.lemmas.Bool.{cases_lt}
+use Rattle.std.proofs.lemmas.Bool.{and_parts, cases_lt, or_cases}
 use Rattle.std.proofs.lemmas.Bool.Decides.{nat_tests}
 use Rattle.std.proofs.lemmas.Nat.{and_mask}
 use Rattle.std.proofs.lemmas.List.{get_or_append_left, get_or-append_right, get_or_past}
@@ -14,6 +14,7 @@ use Rattle.ap_fields.specs.declared.sizes.TheConstants.{BLOCK}
 use Rattle.ap_fields.proofs.Bytes.{length-zeros, get_or-zeros}
 use Rattle.ap_elf.specs.declared.types.Entry.{Entry}
 use Rattle.ap_elf.specs.Written.{entry_bytes, table_bytes}
+use Rattle.ap_elf.proofs.ReadBack.{length-entry_bytes}
 use Rattle.ap_elf.specs.declared.machine.Machine.{Machine}
 use Rattle.ap_elf.specs.declared.machine.Machine.TheVariants.{X64, A64}
 use Rattle.ap_check.specs.declared.load.Load.{Load}
@@ -24,10 +25,11 @@ use Rattle.ap_layout.specs.declared.layout.Area.{Area}
 use Rattle.ap_layout.specs.declared.sizes.TheConstants.{FILE_TOP}
 use Rattle.ap_layout.specs.Areas.{end_of, after, end_from, is_new, new_areas, Among, Serves, ServeAll}
 use Rattle.ap_layout.specs.Positions.{Positions, Fits, entry_count, PlacedInput, AreServed, all_areas, only_inputs, placed_inputs}
+use Rattle.ap_layout.proofs.NewAreas.{end-least}
 use Rattle.ap_script.specs.Tables.{load_entry, load_entries, stack_entries, is_backed, place_of, note_entry, tls_entries, table_of, table_text}
 use Rattle.ap_script.specs.Blocks.{tables_text, body_of}
 use Rattle.ap_script.specs.Stands.{HasZeros}
-use Rattle.ap_script.proofs.TableLengths.{length-entry_bytes, length-table_text}
+use Rattle.ap_script.proofs.TableLengths.{length-table_text}
 
 -- ---- texts whose eighth bytes are zero
 
@@ -122,14 +124,10 @@ among-new c [] a h = h
 among-new c (b ∷ areas) a h =
     among-by (is_new c b) a b (new_areas (end_of b) areas) (new_areas c areas) areas (among-new (end_of b) areas a) (among-new c areas a) h
 
-cursor-grows : (c : ℕ) (areas : List Area) → c ≤ end_from c areas
-cursor-grows c [] = omega arith
-cursor-grows c (a ∷ areas) = let h = cursor-grows (after c a) areas in omega arith
-
 among-end : (c : ℕ) (areas : List Area) (a : Area) → Among a areas → end_of a ≤ end_from c areas
 among-end c [] a h = absurd h
 among-end c (b ∷ areas) a (inl is) =
-    let h = cursor-grows (after c b) areas in
+    let h = end-least (after c b) areas in
     let e : end_of a ≡ end_of b = ap end_of is in
     omega arith
 among-end c (b ∷ areas) a (inr later) = among-end (after c b) areas a later
@@ -143,14 +141,6 @@ news-low options inputs l f a h =
 
 -- ---- the numbers of a table
 
-split_and : (a b : Bool) → (a && b) ≡ true → (a ≡ true) × (b ≡ true)
-split_and true b h = (refl, h)
-split_and false b h = absurd (cc)
-
-split_or : (a b : Bool) → (a || b) ≡ true → (a ≡ true) ⊎ (b ≡ true)
-split_or true b h = inl refl
-split_or false b h = inr h
-
 low-part : (m : Machine) (v : ℕ) → v % granule_of m < 16384
 low-part X64 v = omega arith
 low-part A64 v = omega arith
@@ -161,7 +151,7 @@ granule-low A64 = omega arith
 
 has_part-top : (g size low a count : ℕ) (p : Load) → IsLoad g size low p → has_part a count p ≡ true → a + count ≤ 2 ^ 47
 has_part-top g size low a count p is h =
-    let both = split_and (nat_le p.vaddr a) (nat_le (a + count) (p.vaddr + p.filesz)) h in
+    let both = and_parts (nat_le p.vaddr a) (nat_le (a + count) (p.vaddr + p.filesz)) h in
     let below : a + count ≤ p.vaddr + p.filesz = grind (arith, nat_tests, both.1) in
     let sizes = is.sizes in
     let top = is.top in
@@ -170,14 +160,14 @@ has_part-top g size low a count p is h =
 in_part-top : (g size low a count : ℕ) (loads : List Load) → AreLoads g size low loads → in_part a count loads ≡ true → a + count ≤ 2 ^ 47
 in_part-top g size low a count [] are h = absurd (cc)
 in_part-top g size low a count (p ∷ loads) are h =
-    elim (split_or (has_part a count p) (in_part a count loads) h) [
+    elim (or_cases (has_part a count p) (in_part a count loads) h) [
       | inl here ↦ has_part-top g size low a count p are.0 here
       | inr later ↦ in_part-top g size (ceil_of (p.vaddr + p.memsz) g) a count loads are.1 later
     ]
 
 place-here : (g size low a : ℕ) (p : Load) (x : Area) → IsLoad g size low p → x.file < FILE_TOP → is_backed p a ≡ true → x.file + (a - floor_of p.vaddr g) < 256 ^ 7
 place-here g size low a p x is file backed =
-    let below : a < p.vaddr + p.filesz = grind (arith, nat_tests, (split_and (nat_le p.vaddr a) (nat_lt a (p.vaddr + p.filesz)) backed).1) in
+    let below : a < p.vaddr + p.filesz = grind (arith, nat_tests, (and_parts (nat_le p.vaddr a) (nat_lt a (p.vaddr + p.filesz)) backed).1) in
     let sizes = is.sizes in
     let top = is.top in
     omega arith
@@ -234,8 +224,8 @@ short-stack (Some p) =
 
 short-note : (g size : ℕ) (loads : List Load) (areas : List Area) (p : Entry) → AreLoads g size 0 loads → AreLow areas → is_note loads p ≡ true → IsShort (note_entry g loads areas p)
 short-note g size loads areas p are lows is =
-    let rest = (split_and (p.kind == 4) (not (p.filesz == 0) && in_part p.vaddr p.filesz loads) is).1 in
-    let part = (split_and (not (p.filesz == 0)) (in_part p.vaddr p.filesz loads) rest).1 in
+    let rest = (and_parts (p.kind == 4) (not (p.filesz == 0) && in_part p.vaddr p.filesz loads) is).1 in
+    let part = (and_parts (not (p.filesz == 0)) (in_part p.vaddr p.filesz loads) rest).1 in
     let top = in_part-top g size 0 p.vaddr p.filesz loads are part in
     record {
       flags = omega arith;
