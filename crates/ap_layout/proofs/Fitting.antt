@@ -10,6 +10,7 @@ use Rattle.ap_elf.specs.Machines.{granule_of}
 use Rattle.ap_check.specs.declared.options.Options.{Options}
 use Rattle.ap_check.specs.Inputs.{Taken, Meets}
 use Rattle.ap_layout.specs.declared.layout.Area.{Area}
+use Rattle.ap_layout.specs.declared.sizes.TheConstants.{MOST_AREAS, MOST_TABLE}
 use Rattle.ap_layout.specs.Areas.{area_of, after, areas_of, end_from, new_areas, Among, Serves, ServeAll}
 use Rattle.ap_layout.specs.Positions.{Positions, Fits, PlacedInput, AreServed, placed_inputs, all_areas, positions_of, inputs_of, input_areas, no_sharing, joined, one_if, table_length}
 use Rattle.ap_layout.specs.Apart.{AllApart, Ascend, FittingIsApart, first_areas}
@@ -27,7 +28,7 @@ end-most shares i g (p ∷ loads) c c0 old is up may =
     omega arith
 
 -- the bound of one input, by the rules that it meets
-pub input-end : (e : Taken) (c : ℕ) → Meets e → end_from c (input_areas e c) ≤ c + 269615104
+pub input-end : (e : Taken) (c : ℕ) → Meets e → end_from c (input_areas e c) ≤ c + MOST_AREAS
 input-end e c m =
     let most = end-most no_sharing 0 (granule_of e.machine) e.loads c 0 [] (granule_of-is e.machine) (omega arith) (nothing-shared 0 (granule_of e.machine) 0 [] e.loads) in
     let room = room_of-is e.loads in
@@ -46,7 +47,7 @@ one_if-most : (o : Option Entry) → one_if o ≤ 1
 one_if-most None = omega arith
 one_if-most (Some p) = omega arith
 
-pub table-most : (e : Taken) → Meets e → table_length e ≤ 1736
+pub table-most : (e : Taken) → Meets e → table_length e ≤ MOST_TABLE
 table-most e m =
     let stack = one_if-most e.stack in
     let tls = one_if-most e.tls in

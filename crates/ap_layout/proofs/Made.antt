@@ -5,20 +5,21 @@ use Rattle.ap_check.specs.declared.options.Options.{Options}
 use Rattle.ap_check.specs.Inputs.{Taken}
 use Rattle.ap_layout.specs.declared.layout.Area.{Area}
 use Rattle.ap_layout.specs.Areas.{end_from}
+use Rattle.ap_layout.specs.declared.sizes.TheConstants.{TABLES}
 use Rattle.ap_layout.specs.Positions.{Positions, positions_of, input_areas, table_length}
 
 abbrev pub positions_by : List (List Area) → List ℕ → ℕ → ℕ → Positions
 positions_by areas tables body_end total = record { areas = areas; tables = tables; mach_at = 0; mach_len = 0; body_end = body_end; total = total }
 
 pub made-one : (options : Options) (e : Taken) (first second : List Area) (tables : List ℕ) (length end : ℕ)
-    → first ≡ input_areas e BLOCK → second ≡ [] → tables ≡ 96 ∷ [] → length ≡ table_length e → end ≡ end_from BLOCK (input_areas e BLOCK)
-    → positions_by (first ∷ second ∷ []) tables (96 + length) end ≡ positions_of options e None
+    → first ≡ input_areas e BLOCK → second ≡ [] → tables ≡ TABLES ∷ [] → length ≡ table_length e → end ≡ end_from BLOCK (input_areas e BLOCK)
+    → positions_by (first ∷ second ∷ []) tables (TABLES + length) end ≡ positions_of options e None
 unfolding positions_of
 made-one options e first second tables length end a b t l d = rw (a, b, t, l, d) refl
 
 pub made-two : (options : Options) (e f : Taken) (first second : List Area) (tables : List ℕ) (length more mid end : ℕ)
-    → first ≡ input_areas e BLOCK → mid ≡ end_from BLOCK (input_areas e BLOCK) → second ≡ input_areas f mid → tables ≡ 96 ∷ (96 + length) ∷ [] → length ≡ table_length e → more ≡ table_length f
+    → first ≡ input_areas e BLOCK → mid ≡ end_from BLOCK (input_areas e BLOCK) → second ≡ input_areas f mid → tables ≡ TABLES ∷ (TABLES + length) ∷ [] → length ≡ table_length e → more ≡ table_length f
     → end ≡ end_from mid (input_areas f mid)
-    → positions_by (first ∷ second ∷ []) tables (96 + length + more) end ≡ positions_of options e (Some f)
+    → positions_by (first ∷ second ∷ []) tables (TABLES + length + more) end ≡ positions_of options e (Some f)
 unfolding positions_of
 made-two options e f first second tables length more mid end a m b t l k d = rw (a, b, t, l, k, d, m) refl

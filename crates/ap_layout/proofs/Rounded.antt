@@ -8,6 +8,7 @@ use Rattle.ap_elf.specs.declared.machine.Machine.{Machine}
 use Rattle.ap_elf.specs.declared.machine.Machine.TheVariants.{X64, A64}
 use Rattle.ap_check.specs.declared.load.Load.{Load}
 use Rattle.ap_elf.specs.Machines.{granule_of}
+use Rattle.ap_layout.specs.declared.sizes.TheConstants.{MOST_BESIDE}
 use Rattle.ap_layout.specs.Areas.{content_length, end_of, area_of}
 
 pub granule_of-is : (m : Machine) → IsGranule (granule_of m)
@@ -45,7 +46,7 @@ content-bounds g p is =
     (low, omega arith)
 
 -- how far the cursor moves
-pub area-end : (g : ℕ) (p : Load) (c : ℕ) → IsGranule g → end_of (area_of None g p c) ≤ c + p.filesz + 49152
+pub area-end : (g : ℕ) (p : Load) (c : ℕ) → IsGranule g → end_of (area_of None g p c) ≤ c + p.filesz + MOST_BESIDE
 area-end g p c is =
     elim (cases_Bool (eqb p.filesz 0)) [
       | inl z ↦ rw z (omega arith)

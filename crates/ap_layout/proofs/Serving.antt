@@ -6,6 +6,7 @@ use Rattle.ap_fields.specs.Granules.{IsGranule, ceil_of}
 use Rattle.ap_fields.specs.declared.sizes.TheConstants.{BLOCK}
 use Rattle.ap_check.specs.declared.load.Load.{Load}
 use Rattle.ap_layout.specs.declared.layout.Area.{Area}
+use Rattle.ap_layout.specs.declared.sizes.TheConstants.{MOST_BESIDE}
 use Rattle.ap_layout.specs.Areas.{content_length, no_area, end_of, area_of, after, areas_of, end_from, is_new, new_areas, Among, Serves, ServeAll}
 use Rattle.ap_layout.specs.Positions.{no_sharing}
 use Rattle.ap_layout.proofs.Rounded.{ceil-least, ceil-even, content-bounds, area-end}
@@ -33,7 +34,7 @@ may-more : (g c d : ℕ) (others all : List Area) (p : Load) (a : Area) → c �
 may-more g c d others all p a up sub h = record { among = sub a h.among; len = h.len; granule = h.granule; past = h.past; ends = (let e = h.ends in omega arith) }
 
 -- how far the cursor moves over a load
-pub served-end : (s : Option Area) (g c c0 : ℕ) (old : List Area) (p : Load) → IsGranule g → c0 ≤ c → ((a : Area) → s ≡ Some a → MayServe g c0 old p a) → end_of (area_of s g p c) ≤ c + p.filesz + 49152
+pub served-end : (s : Option Area) (g c c0 : ℕ) (old : List Area) (p : Load) → IsGranule g → c0 ≤ c → ((a : Area) → s ≡ Some a → MayServe g c0 old p a) → end_of (area_of s g p c) ≤ c + p.filesz + MOST_BESIDE
 served-end None g c c0 old p is up may = area-end g p c is
 served-end (Some a) g c c0 old p is up may =
     let ends = (may a refl).ends in

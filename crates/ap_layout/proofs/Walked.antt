@@ -4,17 +4,18 @@ use Rattle.std.proofs.lemmas.List.Sums.{sum_by-cons}
 use Rattle.ap_check.specs.declared.load.Load.{Load}
 use Rattle.ap_check.specs.Inputs.{bytes_of_loads}
 use Rattle.ap_layout.specs.declared.layout.Area.{Area}
+use Rattle.ap_layout.specs.declared.sizes.TheConstants.{MOST_BESIDE}
 use Rattle.ap_layout.specs.Areas.{end_of, area_of, after, areas_of, end_from}
 
 abbrev pub no_load : Load
 no_load = record { offset = 0; vaddr = 0; filesz = 0; memsz = 0; perms = record { 0 = 0 } }
 
--- a bound on what loads need: their bytes, and three granules of 16384 bytes each
+-- a bound on what loads need: their bytes, and three granules each
 abbrev pub room_of : List Load → ℕ
 room_of [] = 0
-room_of (p ∷ loads) = p.filesz + 49152 + room_of loads
+room_of (p ∷ loads) = p.filesz + MOST_BESIDE + room_of loads
 
-pub room_of-is : (loads : List Load) → room_of loads ≡ bytes_of_loads loads + 49152 * length loads
+pub room_of-is : (loads : List Load) → room_of loads ≡ bytes_of_loads loads + MOST_BESIDE * length loads
 room_of-is [] = refl
 room_of-is (p ∷ loads) =
     let rest = room_of-is loads in
@@ -32,14 +33,14 @@ walked-start shares g from all = record { areas = refl; cursor = refl; room = om
 
 -- one load further
 pub walked-step : (shares : ℕ → Option Area) (g from : ℕ) (all : List Load) (i : ℕ) (done now : List Area) (p : Load) (front rest : List Load) (c next : ℕ) (a : Area)
-    → front ≡ p ∷ rest → a ≡ area_of (shares i) g p c → end_of a ≤ c + p.filesz + 49152 → now ≡ done ++ a ∷ [] → next ≡ max c (end_of a)
+    → front ≡ p ∷ rest → a ≡ area_of (shares i) g p c → end_of a ≤ c + p.filesz + MOST_BESIDE → now ≡ done ++ a ∷ [] → next ≡ max c (end_of a)
     → Walked shares g from all i done front c → Walked shares g from all (i + 1) now rest next
 walked-step shares g from all i done now p front rest c next a split here far push up h =
     let b : Area = area_of (shares i) g p c in
     let split' : Walked shares g from all i done (p ∷ rest) c = subst (λ (xs : List Load). Walked shares g from all i done xs c) split h in
     let up' : next ≡ after c b = up ∙ ap (λ (x : Area). max c (end_of x)) here in
     let push' : now ≡ done ++ b ∷ [] = push ∙ ap (λ (x : Area). done ++ x ∷ []) here in
-    let far' : end_of b ≤ c + p.filesz + 49152 = subst (λ (x : Area). end_of x ≤ c + p.filesz + 49152) here far in
+    let far' : end_of b ≤ c + p.filesz + MOST_BESIDE = subst (λ (x : Area). end_of x ≤ c + p.filesz + MOST_BESIDE) here far in
     let made : Walked shares g from all (i + 1) (done ++ b ∷ []) rest (after c b) = record {
       areas = append_assoc done (b ∷ []) (areas_of shares (i + 1) g rest (after c b)) ∙ split'.areas;
       cursor = split'.cursor;
@@ -56,7 +57,7 @@ walked-end shares g from all i done rest c none h =
 
 -- the next area's end is within the bound, and so is the load's length
 pub walked-fits : (shares : ℕ → Option Area) (g from : ℕ) (all : List Load) (i : ℕ) (done : List Area) (p : Load) (front rest : List Load) (c : ℕ) → front ≡ p ∷ rest → Walked shares g from all i done front c
-    → c + p.filesz + 49152 ≤ from + room_of all
+    → c + p.filesz + MOST_BESIDE ≤ from + room_of all
 walked-fits shares g from all i done p front rest c split h =
     let h' : Walked shares g from all i done (p ∷ rest) c = subst (λ (xs : List Load). Walked shares g from all i done xs c) split h in
     let r = h'.room in omega arith

@@ -1,12 +1,14 @@
 -- The positions of a linked file's parts, by its inputs, and what stands of them.
-use Rattle.std.specs.Prelude.{◌≡◌, ℕ, ◌+◌, ◌*◌, ◌^◌, ◌<◌, ◌≤◌, List, [], ◌∷◌, ◌++◌, length, map, Option, Some, None}
+use Rattle.std.specs.Prelude.{◌≡◌, ℕ, ◌+◌, ◌*◌, ◌<◌, ◌≤◌, List, [], ◌∷◌, ◌++◌, length, map, Option, Some, None}
 use Rattle.std.specs.List.{flat_map}
 use Rattle.ap_fields.specs.declared.sizes.TheConstants.{BLOCK}
 use Rattle.ap_elf.specs.declared.types.Entry.{Entry}
+use Rattle.ap_elf.specs.declared.constants.TheConstants.{PHDR_SIZE}
 use Rattle.ap_elf.specs.Machines.{granule_of}
 use Rattle.ap_check.specs.declared.options.Options.{Options}
 use Rattle.ap_check.specs.Inputs.{Taken}
 use Rattle.ap_layout.specs.declared.layout.Area.{Area}
+use Rattle.ap_layout.specs.declared.sizes.TheConstants.{TABLES, MOST_BODY, FILE_TOP}
 use Rattle.ap_layout.specs.Areas.{areas_of, end_from, new_areas, ServeAll}
 
 -- where the areas of each input, the program header tables, the Mach-O header and the ends stand
@@ -21,7 +23,7 @@ pub record Positions : Type 0 where
 -- where the first program header table stands: behind the here-document's opening and ten zeros, and behind what formats of the
 -- chosen systems have in front of it, which is nothing so far
 abbrev pub tables_start : Options → List Taken → ℕ
-tables_start options inputs = 96
+tables_start options inputs = TABLES
 
 -- where the Mach-O header stands in the block's second half, and its length: there is none so far
 abbrev pub mach_start : Options → List Taken → ℕ
@@ -39,7 +41,7 @@ abbrev pub entry_count : Taken → ℕ
 entry_count e = length e.loads + (one_if e.stack + (length e.notes + one_if e.tls))
 
 abbrev pub table_length : Taken → ℕ
-table_length e = 56 * entry_count e
+table_length e = PHDR_SIZE * entry_count e
 
 -- nothing is shared so far
 abbrev pub no_sharing : ℕ → Option Area
@@ -114,9 +116,9 @@ pub record Fits (options : Options) (inputs : List Taken) (l : Positions) : Type
   pub all : only_inputs (placed_inputs inputs l) ≡ inputs
   pub areas : AreServed (new_areas BLOCK (all_areas (placed_inputs inputs l))) (placed_inputs inputs l)
   pub total : l.total ≡ end_from BLOCK (all_areas (placed_inputs inputs l))
-  pub small : l.total < 2 ^ 31
+  pub small : l.total < FILE_TOP
   pub tables : AreTables (tables_start options inputs) (placed_inputs inputs l) l.body_end
-  pub body : l.body_end ≤ 3568
+  pub body : l.body_end ≤ MOST_BODY
   pub mach : l.mach_at + l.mach_len ≤ BLOCK
 
 abbrev pub inputs_of : Taken → Option Taken → List Taken

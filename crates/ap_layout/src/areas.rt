@@ -3,6 +3,7 @@ ghost use Rattle.std.specs.Prelude.{◌≡◌, ◌+◌, ◌*◌, ◌^◌, ◌<�
 ghost use Rattle.ap_fields.specs.Granules.{IsGranule};
 ghost use Rattle.ap_fields.specs.declared.sizes.TheConstants.{MOST_LOADS};
 ghost use Rattle.ap_check.specs.Inputs.{Meets, bytes_of_loads};
+ghost use Rattle.ap_layout.specs.declared.sizes.TheConstants.{MOST_AREAS, MOST_BESIDE};
 ghost use Rattle.ap_layout.specs.Areas.{area_of, areas_of, end_of, end_from};
 ghost use Rattle.ap_layout.specs.Positions.{input_areas, no_sharing};
 
@@ -24,7 +25,7 @@ pub fn areas_from(e: &Input, from: u64) -> Placed
     ensures meets { Meets e.now }
     ensures areas { result.areas.items ≡ input_areas e.now from }
     ensures end { result.end ≡ end_from from (input_areas e.now from) }
-    ensures bound { result.end ≤ from + 269615104 }
+    ensures bound { result.end ≤ from + MOST_AREAS }
 {
     areas_of_loads(e.loads.as_slice(), e.machine.granule(), from)
 }
@@ -32,10 +33,10 @@ pub fn areas_from(e: &Input, from: u64) -> Placed
 fn areas_of_loads(loads: &[Load], granule: u64, from: u64) -> Placed
     requires granule { IsGranule granule }
     requires few { length loads.now ≤ MOST_LOADS }
-    requires small { from + (bytes_of_loads loads.now + 49152 * length loads.now) < 2 ^ 62 }
+    requires small { from + (bytes_of_loads loads.now + MOST_BESIDE * length loads.now) < 2 ^ 62 }
     ensures areas { result.areas.items ≡ areas_of no_sharing 0 granule loads.now from }
     ensures end { result.end ≡ end_from from (areas_of no_sharing 0 granule loads.now from) }
-    ensures bound { result.end ≤ from + (bytes_of_loads loads.now + 49152 * length loads.now) }
+    ensures bound { result.end ≤ from + (bytes_of_loads loads.now + MOST_BESIDE * length loads.now) }
 {
     let mut areas = ArrayVec::new();
     let mut end = from;
@@ -53,7 +54,7 @@ fn area(load: &Load, granule: u64, cursor: u64) -> Area
     requires granule { IsGranule granule }
     requires small { cursor + load.now.filesz < 2 ^ 62 }
     ensures area { result ≡ area_of None granule load.now cursor }
-    ensures bound { end_of result ≤ cursor + load.now.filesz + 49152 }
+    ensures bound { end_of result ≤ cursor + load.now.filesz + MOST_BESIDE }
 {
     if load.filesz == 0 {
         Area { file: 0, len: 0 }

@@ -6,13 +6,11 @@ ghost use Rattle.ap_layout.specs.Positions.{positions_of, inputs_of, joined, Fit
 
 use crate::areas::areas_from;
 use crate::layout::Layout;
+use crate::sizes::TABLES;
 use crate::tables::table_length;
 use ap_check::{Input, Job};
 use ap_fields::BLOCK;
 use arrayvec::ArrayVec;
-
-/// Where the first program header table stands: behind the here-document's opening and ten zeros.
-const TABLES: u32 = 96;
 
 /// The positions of a linked file's parts: one area for each load that has bytes in its input's file, on the granules of
 /// its input's machine, in the order of the inputs and of their loads behind the block; and the program header tables,

@@ -21,3 +21,4 @@ pub mod ClaimedFiles
 pub mod Filling
 pub mod Lending
 pub mod HeldLemmas
+pub mod TakenStatements

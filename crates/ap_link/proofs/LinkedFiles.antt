@@ -34,12 +34,12 @@ use Rattle.ap_script.specs.Blocks.{block_of, body_of}
 use Rattle.ap_script.specs.Stands.{MachinesDiffer, IsOneOf, HasFreeDelimiter, statement_place}
 use Rattle.ap_script.specs.Claims.{block_claims}
 use Rattle.ap_script.proofs.Claimed.{block-claimed}
-use Rattle.ap_script.proofs.BlockParts.{length-body, length-block, block-magic, block-body, block-tables}
+use Rattle.ap_script.proofs.BlockParts.{length-body, length-block, block-body, block-tables}
 use Rattle.ap_script.proofs.DelimiterWords.{free-delimiter}
 use Rattle.ap_script.proofs.TableZeros.{body-zeros}
 use Rattle.ap_script.proofs.Openings.{parts-holds}
 use Rattle.ap_script.proofs.StatementPlaces.{opens-only, parts-block}
-use Rattle.ap_script.proofs.TakenStatements.{count-places, places-order, taken-block, header_for-input}
+use Rattle.ap_script.proofs.InputStatements.{count-places, places-order, header_for-input}
 use Rattle.ap_link.specs.Same.{Same, nothing_else}
 use Rattle.ap_link.specs.LinkedIn.{HoldAll, IsLinkedIn}
 use Rattle.ap_link.specs.Linked.{input_text, input_end, tail_of, block_for, second_of, taken_second, linked_text}
@@ -48,6 +48,7 @@ use Rattle.ap_link.specs.Answers.{Carries, IsLinked}
 use Rattle.ap_link.proofs.ClaimedFiles.{text-end, whole-claimed}
 use Rattle.ap_link.proofs.LinkedImages.{elf-is-same, ape-is-same}
 use Rattle.ap_link.proofs.PlacedTexts.{text-held}
+use Rattle.ap_link.proofs.TakenStatements.{block-magic, taken-block}
 
 -- what is taken of bytes
 entry-taken : (n : ℕ) (b : List ℕ) → (input_of n b).entry ≡ (header_of b).e_entry

@@ -5,7 +5,6 @@ use Rattle.std.proofs.lemmas.List.{length-replicate}
 use Rattle.ap_fields.specs.declared.sizes.TheConstants.{BLOCK, WINDOW}
 use Rattle.ap_fields.specs.Bytes.{zeros, Holds}
 use Rattle.ap_fields.proofs.Bytes.{length-zeros, holds-part}
-use Rattle.ap_loader.specs.Embedded.{has_magic}
 use Rattle.ap_check.specs.declared.options.Options.{Options}
 use Rattle.ap_elf.specs.declared.machine.Machine.TheVariants.{X64, A64}
 use Rattle.ap_check.specs.Inputs.{Taken}
@@ -154,10 +153,6 @@ window-parts options inputs l =
     ∙ ap (λ r. opening k ++ r) (append_assoc body (closing k ++ s) fill ∙ ap (λ r. body ++ r) (append_assoc (closing k) s fill))
 
 -- the magic
-opening-magic : (number : ℕ) (rest : List ℕ) → has_magic (opening number ++ rest) ≡ true
-unfolding opening
-opening-magic number rest = refl
-
 opening-parts : (number : ℕ) (rest : List ℕ) → Holds (opening number ++ rest) 0 (codes "jartsr='")
 unfolding opening
 opening-parts number rest = holds-part [] (codes "jartsr='") (codes "\n" ++ ((zeros 55 ++ (codes "' <<'" ++ (delimiter number ++ codes "'\n"))) ++ rest)) 0 refl
@@ -168,11 +163,6 @@ front-parts options inputs l rest =
     block-parts options inputs l rest
     ∙ ap (λ r. r ++ (zeros (BLOCK - WINDOW) ++ rest)) (window-parts options inputs l)
     ∙ append_assoc (opening (delimiter_number (body_of options inputs l))) (body_of options inputs l ++ behind_body options inputs l) (zeros (BLOCK - WINDOW) ++ rest)
-
-pub block-magic : (options : Options) (inputs : List Taken) (l : Positions) (rest : List ℕ) → has_magic (block_of options inputs l ++ rest) ≡ true
-block-magic options inputs l rest =
-    ap has_magic (front-parts options inputs l rest)
-    ∙ opening-magic (delimiter_number (body_of options inputs l)) ((body_of options inputs l ++ behind_body options inputs l) ++ (zeros (BLOCK - WINDOW) ++ rest))
 
 pub block-begins : (options : Options) (inputs : List Taken) (l : Positions) (rest : List ℕ) → Holds (block_of options inputs l ++ rest) 0 (codes "jartsr='")
 block-begins options inputs l rest =

@@ -3,12 +3,11 @@
 use Rattle.std.proofs.Common.{◌≡◌, inl, inr, ℕ, zero, suc, ◌+◌, ◌*◌, ◌-◌, ◌/◌, ◌%◌, ◌^◌, ◌≤◌, ◌<◌, ◌==◌, ◌||◌, not, cond, Bool, true, false, List, [], ◌∷◌, ◌++◌, length, take, drop, refl, sym, ap, ◌∙◌, arith, length-append}
 use Rattle.std.specs.Prelude.{codes, ◌≢◌}
 use Rattle.std.proofs.Math.Nat.{pow-suc}
-use Rattle.std.proofs.lemmas.Bool.{cases_Bool}
+use Rattle.std.proofs.lemmas.Bool.{and_parts, cases_Bool, false_from_ne_true, not-true, or_right}
 use Rattle.std.proofs.lemmas.Bool.Decides.{nat_tests}
 use Rattle.ap_fields.specs.declared.sizes.TheConstants.{WINDOW}
 use Rattle.ap_script.specs.Delimiter.{digits_of, delimiter, begins_with, stands_in, without_nul, least_from, delimiter_number}
 use Rattle.ap_script.specs.Stands.{HasPart, HasFreeDelimiter}
-use Rattle.ap_script.proofs.Quotes.{both, not_true}
 
 -- ---- how many numbers below n pass a test
 
@@ -35,17 +34,13 @@ count-none f (suc n) none =
     let here : one_if (f n) ≡ 0 = ap one_if (none n (omega arith)) in
     omega arith
 
-other : (b : Bool) → (b ≡ true → ⊥) → b ≡ false
-other true never = absurd (never refl)
-other false never = refl
-
 count-one : (f : ℕ → Bool) (m n : ℕ) → ((k : ℕ) → k < n → f k ≡ true → k ≡ m) → count f n ≤ 1
 count-one f m zero only = omega arith
 count-one f m (suc n) only =
     elim (cases_Bool (f n)) [
       | inl here ↦
           (let is : n ≡ m = only n (omega arith) here in
-          let rest = count-none f n (λ k low. other (f k) (λ there. let same : k ≡ m = only k (omega arith) there in omega arith)) in
+          let rest = count-none f n (λ k low. false_from_ne_true (f k) (λ there. let same : k ≡ m = only k (omega arith) there in omega arith)) in
           let one : one_if (f n) ≡ 1 = ap one_if here in
           omega arith)
       | inr none ↦
@@ -97,7 +92,7 @@ begins_with-take : (word text : List ℕ) → begins_with word text ≡ true →
 begins_with-take [] text h = refl
 begins_with-take (c ∷ word) [] h = absurd (cc)
 begins_with-take (c ∷ word) (d ∷ text) h =
-    let b = both (c == d) (begins_with word text) h in
+    let b = and_parts (c == d) (begins_with word text) h in
     let same : c ≡ d = grind (arith, nat_tests, b.0) in
     let rest = begins_with-take word text b.1 in
     ap (λ r. d ∷ r) rest ∙ ap (λ e. e ∷ word) (sym same)
@@ -155,7 +150,7 @@ least-free n text low short =
     let below = free.1 in
     let found = least-found n (λ k. not (stands_in (delimiter k) text)) 0 free.0 (omega arith) (omega arith) (ap not free.2) in
     let end = found.0 in
-    (omega arith, not_true (stands_in (delimiter (least_from n (λ k. not (stands_in (delimiter k) text)) 0)) text) found.1)
+    (omega arith, not-true (stands_in (delimiter (least_from n (λ k. not (stands_in (delimiter k) text)) 0)) text) found.1)
 
 pub number-free : (body : List ℕ) → length body < WINDOW
     → (delimiter_number body < WINDOW) × (stands_in (delimiter (delimiter_number body)) (without_nul body) ≡ false)
@@ -171,10 +166,6 @@ begins_with-front (c ∷ word) behind = let same : (c == c) ≡ true = grind (ar
 stands_in-first : (word text : List ℕ) → begins_with word text ≡ true → stands_in word text ≡ true
 stands_in-first word [] h = h
 stands_in-first word (d ∷ text) h = rw h refl
-
-or_right : (a b : Bool) → b ≡ true → (a || b) ≡ true
-or_right true b h = refl
-or_right false b h = h
 
 stands_in-part : (word front behind : List ℕ) → stands_in word (front ++ (word ++ behind)) ≡ true
 stands_in-part word [] behind = stands_in-first word (word ++ behind) (begins_with-front word behind)

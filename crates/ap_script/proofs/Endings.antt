@@ -3,6 +3,7 @@ use Rattle.std.proofs.Common.{◌≡◌, ℕ, ◌+◌, ◌-◌, ◌/◌, ◌≤�
 use Rattle.std.specs.Prelude.{codes}
 use Rattle.std.proofs.lemmas.List.{take-replicate}
 use Rattle.ap_fields.specs.declared.sizes.TheConstants.{WINDOW}
+use Rattle.ap_octal.specs.declared.types.TheConstants.{MOST_STATEMENT}
 use Rattle.ap_elf.specs.declared.machine.Machine.{Machine}
 use Rattle.ap_elf.specs.declared.machine.Machine.TheVariants.{X64, A64}
 use Rattle.ap_check.specs.declared.options.Systems.{Systems}
@@ -13,7 +14,7 @@ use Rattle.ap_script.specs.Delimiter.{delimiter, delimiter_number}
 use Rattle.ap_script.specs.Script.{system_lines, script_of, header_for}
 use Rattle.ap_script.specs.Blocks.{closing, spaces, body_of, script_for, shell_text, ending_of}
 use Rattle.ap_script.specs.Stands.{statement_place}
-use Rattle.ap_script.proofs.ScriptParts.{header-is, length-script_start, length-system_lines, length-machine_start, length-machine_lines}
+use Rattle.ap_script.proofs.ScriptParts.{header-is, plain-script_start, plain-system_lines, plain-machine_start, length-machine_lines}
 use Rattle.ap_script.proofs.BlockParts.{length-opening, length-body, length-closing, length-script_for, length-spaces, small-units}
 
 -- three pieces one behind the other
@@ -25,20 +26,20 @@ pub closing-next : (old a b c word : List ℕ) (number : ℕ) → a ≡ old ++ c
 unfolding closing
 closing-next old a b c word number first is second third = three-pieces old a b c (codes "\n") (delimiter number) (codes "\n") first (second ∙ ap (λ w. a ++ w) is) third
 
--- there is room for a statement of 265 bytes behind where a machine's begins
-pub place-room : (options : Options) (inputs : List Taken) (l : Positions) (m : Machine) → Fits options inputs l → statement_place options inputs l m + 265 ≤ WINDOW
+-- there is room for the longest statement behind where a machine's begins
+pub place-room : (options : Options) (inputs : List Taken) (l : Positions) (m : Machine) → Fits options inputs l → statement_place options inputs l m + MOST_STATEMENT ≤ WINDOW
 place-room options inputs l X64 fits =
     let body = fits.body in
-    let a = length-script_start in
-    let b = length-system_lines options.systems (header_for X64 (placed_inputs inputs l)) (l.mach_at / 8) (l.mach_len / 8) (small-units options inputs l fits) in
-    let c = length-machine_start X64 in
+    let a = plain-script_start.few in
+    let b = (plain-system_lines options.systems (header_for X64 (placed_inputs inputs l)) (l.mach_at / 8) (l.mach_len / 8) (small-units options inputs l fits)).few in
+    let c = (plain-machine_start X64).few in
     omega arith
 place-room options inputs l A64 fits =
     let body = fits.body in
-    let a = length-script_start in
-    let b = length-system_lines options.systems (header_for X64 (placed_inputs inputs l)) (l.mach_at / 8) (l.mach_len / 8) (small-units options inputs l fits) in
+    let a = plain-script_start.few in
+    let b = (plain-system_lines options.systems (header_for X64 (placed_inputs inputs l)) (l.mach_at / 8) (l.mach_len / 8) (small-units options inputs l fits)).few in
     let c = length-machine_lines X64 (header_for X64 (placed_inputs inputs l)) (header-is X64 (placed_inputs inputs l)) in
-    let d = length-machine_start A64 in
+    let d = (plain-machine_start A64).few in
     omega arith
 
 -- the shell's text without spaces

@@ -1,5 +1,5 @@
 -- The program headers of loads, load by load.
-use Rattle.std.proofs.Common.{◌≡◌, ℕ, zero, suc, ◌+◌, ◌-◌, ◌<◌, true, false, cond, List, [], ◌∷◌, ◌++◌, length, take, drop, get_or, refl, ap, ◌∙◌, arith}
+use Rattle.std.proofs.Common.{◌≡◌, ℕ, zero, suc, ◌+◌, ◌-◌, ◌<◌, false, cond, List, [], ◌∷◌, ◌++◌, length, take, drop, get_or, refl, ap, ◌∙◌, arith}
 use Rattle.ap_fields.specs.Granules.{floor_of}
 use Rattle.ap_check.specs.declared.load.Load.{Load}
 use Rattle.ap_layout.specs.declared.layout.Area.{Area}

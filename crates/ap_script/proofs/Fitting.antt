@@ -1,48 +1,35 @@
 -- What the positions of a linked file that fit its inputs give to those who write program headers.
-use Rattle.std.proofs.Common.{inl, inr, ◌≡◌, ℕ, suc, ◌+◌, ◌<◌, ◌≤◌, List, [], ◌∷◌, ◌++◌, length, zero, Option, Some, None, refl, ap, ◌∙◌, sym, map, get_or, drop, subst, arith}
+use Rattle.std.proofs.Common.{◌≡◌, ℕ, suc, ◌+◌, ◌<◌, ◌≤◌, List, [], ◌∷◌, ◌++◌, length, zero, Option, Some, None, refl, ap, ◌∙◌, sym, map, get_or, drop, subst, arith}
 use Rattle.std.specs.Prelude.{◌^◌, All}
 use Rattle.std.proofs.lemmas.List.{drop_all, length-map}
 use Rattle.arrayvec.specs.ArrayVec.{ArrayVec}
+use Rattle.std.proofs.lemmas.List.Elements.{All-cons, All-nil, All-tail}
 use Rattle.ap_fields.specs.Granules.{IsGranule, ceil_of}
 use Rattle.ap_fields.specs.declared.sizes.TheConstants.{BLOCK}
-use Rattle.ap_elf.specs.declared.machine.Machine.{Machine}
-use Rattle.ap_elf.specs.declared.machine.Machine.TheVariants.{X64, A64}
 use Rattle.ap_check.specs.declared.load.Load.{Load}
 use Rattle.ap_elf.specs.Machines.{granule_of}
 use Rattle.ap_check.specs.declared.options.Options.{Options}
 use Rattle.ap_check.specs.Inputs.{Taken, Meets, AreLoads}
 use Rattle.ap_layout.specs.declared.layout.Area.{Area}
+use Rattle.ap_layout.specs.declared.sizes.TheConstants.{MOST_BODY, FILE_TOP}
 use Rattle.ap_layout.specs.Areas.{end_from, after, new_areas, ServeAll}
 use Rattle.ap_layout.specs.Positions.{Positions, PlacedInput, Fits, AreServed, AreTables, tables_start, table_length, placed, placed_inputs, only_inputs, all_areas, inputs_of}
+use Rattle.ap_layout.proofs.Rounded.{granule_of-is}
+use Rattle.ap_layout.proofs.NewAreas.{end-least}
 use Rattle.ap_script.specs.Places.{IsKnown, Placed}
 
-is-granule : (m : Machine) → IsGranule (granule_of m)
-is-granule X64 = inl refl
-is-granule A64 = inr refl
-
-module _ {X : Type 0} (P : X → Type 0) where
-  none-all : All P []
-  none-all k d h = absurd (omega arith)
-
-  cons-all : (x : X) (xs : List X) → P x → All P xs → All P (x ∷ xs)
-  cons-all x xs p h zero d k = p
-  cons-all x xs p h (suc i) d k = h i d (omega arith)
-
-  rest-all : (x : X) (xs : List X) → All P (x ∷ xs) → All P xs
-  rest-all x xs h k d b = h (suc k) d (omega arith)
-
 loads-tops : (g size low : ℕ) (loads : List Load) → AreLoads g size low loads → All (λ p. p.vaddr + p.filesz ≤ 2 ^ 47) loads
-loads-tops g size low [] h = none-all (λ p. p.vaddr + p.filesz ≤ 2 ^ 47)
+loads-tops g size low [] h = All-nil (λ p. p.vaddr + p.filesz ≤ 2 ^ 47)
 loads-tops g size low (p ∷ loads) h =
     let sizes = h.0.sizes in
     let top = h.0.top in
-    cons-all (λ p. p.vaddr + p.filesz ≤ 2 ^ 47) p loads (omega arith) (loads-tops g size (ceil_of (p.vaddr + p.memsz) g) loads h.1)
+    All-cons (λ p. p.vaddr + p.filesz ≤ 2 ^ 47) p loads (omega arith) (loads-tops g size (ceil_of (p.vaddr + p.memsz) g) loads h.1)
 
 -- an input and its areas
-pub placed-input : (e : Taken) (g : ℕ) (loads : List Load) (areas : List Area) → Meets e → length areas ≡ length e.loads → All (λ x. x.file < 2 ^ 31) areas
+pub placed-input : (e : Taken) (g : ℕ) (loads : List Load) (areas : List Area) → Meets e → length areas ≡ length e.loads → All (λ x. x.file < FILE_TOP) areas
     → g ≡ granule_of e.machine → loads ≡ e.loads → Placed g loads areas
 placed-input e g loads areas m same places g_is loads_is = record {
-  granule = subst IsGranule (sym g_is) (is-granule e.machine);
+  granule = subst IsGranule (sym g_is) (granule_of-is e.machine);
   same = same ∙ ap length (sym loads_is);
   tops = subst (λ l. All (λ p. p.vaddr + p.filesz ≤ 2 ^ 47) l) (sym loads_is) (loads-tops (granule_of e.machine) e.size 0 e.loads m.loads);
   places = places;
@@ -55,49 +42,45 @@ serve-same g news [] (a ∷ areas) h = absurd h
 serve-same g news (p ∷ loads) [] h = absurd h
 serve-same g news (p ∷ loads) (a ∷ areas) h = ap (λ n. suc n) (serve-same g news loads areas h.1)
 
-end_from-grows : (c : ℕ) (areas : List Area) → c ≤ end_from c areas
-end_from-grows c [] = omega arith
-end_from-grows c (a ∷ areas) = let r = end_from-grows (after c a) areas in omega arith
-
 -- an area begins below the end
 areas-below : (c n : ℕ) (areas : List Area) → end_from c areas < n → All (λ x. x.file < n) areas
-areas-below c n [] h = none-all (λ x. x.file < n)
+areas-below c n [] h = All-nil (λ x. x.file < n)
 areas-below c n (a ∷ areas) h =
-    let r = end_from-grows (after c a) areas in
-    cons-all (λ x. x.file < n) a areas (omega arith) (areas-below (after c a) n areas h)
+    let r = end-least (after c a) areas in
+    All-cons (λ x. x.file < n) a areas (omega arith) (areas-below (after c a) n areas h)
 
 front-all : (n : ℕ) (xs ys : List Area) → All (λ x. x.file < n) (xs ++ ys) → All (λ x. x.file < n) xs
-front-all n [] ys h = none-all (λ x. x.file < n)
-front-all n (x ∷ xs) ys h = cons-all (λ x. x.file < n) x xs (h 0 x (omega arith)) (front-all n xs ys (rest-all (λ x. x.file < n) x (xs ++ ys) h))
+front-all n [] ys h = All-nil (λ x. x.file < n)
+front-all n (x ∷ xs) ys h = All-cons (λ x. x.file < n) x xs (h 0 x (omega arith)) (front-all n xs ys (All-tail (λ x. x.file < n) x (xs ++ ys) h))
 
 back-all : (n : ℕ) (xs ys : List Area) → All (λ x. x.file < n) (xs ++ ys) → All (λ x. x.file < n) ys
 back-all n [] ys h = h
-back-all n (x ∷ xs) ys h = back-all n xs ys (rest-all (λ x. x.file < n) x (xs ++ ys) h)
+back-all n (x ∷ xs) ys h = back-all n xs ys (All-tail (λ x. x.file < n) x (xs ++ ys) h)
 
 -- each input of some is known, where all of them are served
-known-all : (news : List Area) (at end : ℕ) (ps : List PlacedInput) → AreServed news ps → AreTables at ps end → end ≤ 3568 → All (λ x. x.file < 2 ^ 31) (all_areas ps) → All IsKnown ps
-known-all news at end [] served tables low below = none-all IsKnown
+known-all : (news : List Area) (at end : ℕ) (ps : List PlacedInput) → AreServed news ps → AreTables at ps end → end ≤ MOST_BODY → All (λ x. x.file < FILE_TOP) (all_areas ps) → All IsKnown ps
+known-all news at end [] served tables low below = All-nil IsKnown
 known-all news at end (p ∷ ps) served tables low below =
     let behind = tables-behind (at + table_length p.input) end ps tables.1 in
     let place = tables.0 in
-    cons-all IsKnown p ps
+    All-cons IsKnown p ps
     (record {
       same = serve-same (granule_of p.input.machine) news p.input.loads p.areas served.0;
-      places = front-all (2 ^ 31) p.areas (all_areas ps) below;
+      places = front-all FILE_TOP p.areas (all_areas ps) below;
       table = omega arith;
     })
-    (known-all news (at + table_length p.input) end ps served.1 tables.1 low (back-all (2 ^ 31) p.areas (all_areas ps) below))
+    (known-all news (at + table_length p.input) end ps served.1 tables.1 low (back-all FILE_TOP p.areas (all_areas ps) below))
   where
     tables-behind : (at end : ℕ) (ps : List PlacedInput) → AreTables at ps end → at ≤ end
     tables-behind at end [] tables = (let is : end ≡ at = tables in omega arith)
     tables-behind at end (p ∷ ps) tables = (let later = tables-behind (at + table_length p.input) end ps tables.1 in omega arith)
 
-fits-known : (options : Options) (inputs : List Taken) (l : Positions) → Fits options inputs l → All IsKnown (placed_inputs inputs l)
+pub fits-known : (options : Options) (inputs : List Taken) (l : Positions) → Fits options inputs l → All IsKnown (placed_inputs inputs l)
 fits-known options inputs l fits =
     let ps = placed_inputs inputs l in
     let total = fits.total in
     let small = fits.small in
-    known-all (new_areas BLOCK (all_areas ps)) (tables_start options inputs) l.body_end ps fits.areas fits.tables fits.body (areas-below BLOCK (2 ^ 31) (all_areas ps) (omega arith))
+    known-all (new_areas BLOCK (all_areas ps)) (tables_start options inputs) l.body_end ps fits.areas fits.tables fits.body (areas-below BLOCK FILE_TOP (all_areas ps) (omega arith))
 
 -- ---- the inputs of a job
 
@@ -134,7 +117,7 @@ known-next : (ps rest : List PlacedInput) (i : ℕ) (p : PlacedInput) → All Is
 known-next [] rest zero p h is = cc
 known-next [] rest (suc i) p h is = cc
 known-next (q ∷ ps) rest zero p h is = let same : q ≡ p = cc in subst IsKnown same (h 0 q (omega arith))
-known-next (q ∷ ps) rest (suc i) p h is = known-next ps rest i p (rest-all IsKnown q ps h) is
+known-next (q ∷ ps) rest (suc i) p h is = known-next ps rest i p (All-tail IsKnown q ps h) is
 
 -- the input of a number with its places is the next of those that are left, and is known
 pub place-found : (options : Options) (inputs rest : List Taken) (l : Positions) (i : ℕ) (e : Taken) (areas : List Area) (t : ℕ) → Fits options inputs l → drop i inputs ≡ e ∷ rest

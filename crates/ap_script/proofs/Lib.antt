@@ -6,7 +6,7 @@ pub mod Openings
 pub mod ScriptParts
 pub mod BlockParts
 pub mod StatementPlaces
-pub mod TakenStatements
+pub mod InputStatements
 pub mod Words
 pub mod LeastNumbers
 pub mod Digits

@@ -1,7 +1,8 @@
 -- Where `printf '` can stand in a text that is made of parts.
-use Rattle.std.proofs.Common.{◌≡◌, ◌≢◌, ◌⊎◌, inl, inr, ℕ, zero, suc, ◌+◌, ◌-◌, ◌≤◌, ◌<◌, true, List, [], ◌∷◌, ◌++◌, length, get_or, refl, sym, ap, ◌∙◌, arith, length-append, append_assoc, subst}
+use Rattle.std.proofs.Common.{◌≡◌, ◌≢◌, ◌⊎◌, inl, inr, ℕ, zero, suc, ◌+◌, ◌-◌, ◌≤◌, ◌<◌, ◌==◌, ◌&&◌, not, Bool, true, List, [], ◌∷◌, ◌++◌, length, get_or, refl, sym, ap, ◌∙◌, arith, length-append, append_assoc, subst}
 use Rattle.std.specs.Prelude.{codes}
-use Rattle.std.proofs.lemmas.Bool.{cases_lt}
+use Rattle.std.proofs.lemmas.Bool.{and_parts, both_ways, cases_lt, not-true}
+use Rattle.std.proofs.lemmas.Bool.Decides.{nat_tests}
 use Rattle.std.proofs.lemmas.List.{get_or_append_left, get_or-append_right}
 use Rattle.ap_fields.specs.Bytes.{Holds}
 use Rattle.ap_fields.proofs.Bytes.{holds-part}
@@ -12,27 +13,23 @@ use Rattle.ap_script.proofs.Quotes.{has_no_quote, has_no_quote-says, is_clear, i
 abbrev pub word : List ℕ
 word = codes "printf '"
 
+-- a text has no such byte
+abbrev lacks : ℕ → List ℕ → Bool
+lacks b [] = true
+lacks b (c ∷ text) = not (c == b) && lacks b text
+
+lacks-says : (b : ℕ) (text : List ℕ) (j : ℕ) → lacks b text ≡ true → j < length text → get_or text j 0 ≢ b
+lacks-says b [] j h low e = absurd (omega (arith, low))
+lacks-says b (c ∷ text) zero h low e =
+    let same : (c == b) ≡ true = grind (arith, nat_tests, e) in
+    both_ways (c == b) (not-true (c == b) (and_parts (not (c == b)) (lacks b text) h).0) same
+lacks-says b (c ∷ text) (suc j) h low e = lacks-says b text j (and_parts (not (c == b)) (lacks b text) h).1 (omega arith) e
+
 nonzero-byte : (j : ℕ) → j < 8 → get_or word j 0 ≢ 0
-nonzero-byte zero h e = omega (arith, e)
-nonzero-byte (suc zero) h e = omega (arith, e)
-nonzero-byte (suc (suc zero)) h e = omega (arith, e)
-nonzero-byte (suc (suc (suc zero))) h e = omega (arith, e)
-nonzero-byte (suc (suc (suc (suc zero)))) h e = omega (arith, e)
-nonzero-byte (suc (suc (suc (suc (suc zero))))) h e = omega (arith, e)
-nonzero-byte (suc (suc (suc (suc (suc (suc zero)))))) h e = omega (arith, e)
-nonzero-byte (suc (suc (suc (suc (suc (suc (suc zero))))))) h e = omega (arith, e)
-nonzero-byte (suc (suc (suc (suc (suc (suc (suc (suc j)))))))) h e = absurd (omega (arith, h))
+nonzero-byte j low = lacks-says 0 word j refl low
 
 no-newline : (j : ℕ) → j < 8 → get_or word j 0 ≢ 10
-no-newline zero h e = omega (arith, e)
-no-newline (suc zero) h e = omega (arith, e)
-no-newline (suc (suc zero)) h e = omega (arith, e)
-no-newline (suc (suc (suc zero))) h e = omega (arith, e)
-no-newline (suc (suc (suc (suc zero)))) h e = omega (arith, e)
-no-newline (suc (suc (suc (suc (suc zero))))) h e = omega (arith, e)
-no-newline (suc (suc (suc (suc (suc (suc zero)))))) h e = omega (arith, e)
-no-newline (suc (suc (suc (suc (suc (suc (suc zero))))))) h e = omega (arith, e)
-no-newline (suc (suc (suc (suc (suc (suc (suc (suc j)))))))) h e = absurd (omega (arith, h))
+no-newline j low = lacks-says 10 word j refl low
 
 -- where each eight bytes hold a zero byte
 pub not-in-zeros : (text : List ℕ) (k : ℕ) → HasZeros text → Holds text k word → ⊥
@@ -88,11 +85,20 @@ parted xs ys k apart h =
 -- ---- quotes behind blanks
 
 -- each quote behind a blank in a text, which starts at a place, has a property of the blank's place
-abbrev pub Marked : (ℕ → Type 0) → ℕ → List ℕ → Type 0
-Marked P at text = (i : ℕ) → get_or text i 0 ≡ 32 → get_or text (suc i) 0 ≡ 39 → P (at + i)
+abbrev pub Marks : (ℕ → Type 0) → ℕ → List ℕ → Type 0
+Marks P at text = (i : ℕ) → get_or text i 0 ≡ 32 → get_or text (suc i) 0 ≡ 39 → P (at + i)
 
-pub marked-append : (P : ℕ → Type 0) (at : ℕ) (xs ys : List ℕ) → Marked P at xs → Marked P (at + length xs) ys → get_or ys 0 0 ≢ 39 → Marked P at (xs ++ ys)
-marked-append P at xs ys x y starts i blank quote =
+-- and the text doesn't begin with a quote
+pub record Marked (P : ℕ → Type 0) (at : ℕ) (text : List ℕ) : Type 0 where
+  pub starts : get_or text 0 0 ≢ 39
+  pub marks : Marks P at text
+
+starts-append : (xs ys : List ℕ) → get_or xs 0 0 ≢ 39 → get_or ys 0 0 ≢ 39 → get_or (xs ++ ys) 0 0 ≢ 39
+starts-append [] ys x y = y
+starts-append (c ∷ xs) ys x y = x
+
+marks-append : (P : ℕ → Type 0) (at : ℕ) (xs ys : List ℕ) → Marks P at xs → Marks P (at + length xs) ys → get_or ys 0 0 ≢ 39 → Marks P at (xs ++ ys)
+marks-append P at xs ys x y starts i blank quote =
     let n : ℕ = length xs in
     elim (cases_lt i n) [
       | inl low ↦ elim (cases_lt (suc i) n) [
@@ -108,30 +114,37 @@ marked-append P at xs ys x y starts i blank quote =
           (ap (λ j. get_or ys j 0) (sym next) ∙ sym (get_or-append_right xs ys n (suc i) 0 refl (omega arith)) ∙ quote)))
     ]
 
-pub marked-quiet : (P : ℕ → Type 0) (at : ℕ) (text : List ℕ) → has_no_quote text ≡ true → Marked P at text
-marked-quiet P at text h i blank quote = absurd (has_no_quote-says text (suc i) h quote)
+pub marked-append : (P : ℕ → Type 0) (at : ℕ) (xs ys : List ℕ) → Marked P at xs → Marked P (at + length xs) ys → Marked P at (xs ++ ys)
+marked-append P at xs ys x y = record { starts = starts-append xs ys x.starts y.starts; marks = marks-append P at xs ys x.marks y.marks y.starts }
 
-pub marked-clear : (P : ℕ → Type 0) (at : ℕ) (text : List ℕ) → is_clear 0 text ≡ true → Marked P at text
-marked-clear P at text h i blank quote = absurd (is_clear-says 0 text i h blank quote)
+pub marked-quiet : (P : ℕ → Type 0) (at : ℕ) (text : List ℕ) → has_no_quote text ≡ true → Marked P at text
+marked-quiet P at text h = record { starts = has_no_quote-says text 0 h; marks = λ i blank quote. absurd (has_no_quote-says text (suc i) h quote) }
+
+pub marks-clear : (P : ℕ → Type 0) (at : ℕ) (text : List ℕ) → is_clear 0 text ≡ true → Marks P at text
+marks-clear P at text h i blank quote = absurd (is_clear-says 0 text i h blank quote)
 
 -- a statement has one
 clear-octals : (header : List ℕ) → is_clear 0 (39 ∷ (octals_of header ++ codes "'")) ≡ true
 clear-octals header = bare-clear 39 (octals_of header) [] refl (bare-octals header) refl
 
-pub marked-statement : (P : ℕ → Type 0) (at : ℕ) (header : List ℕ) → P (at + 6) → Marked P at (statement_of header)
+marks-statement : (P : ℕ → Type 0) (at : ℕ) (header : List ℕ) → P (at + 6) → Marks P at (statement_of header)
 unfolding statement_of
-marked-statement P at header here zero blank quote = absurd (omega (arith, blank))
-marked-statement P at header here (suc zero) blank quote = absurd (omega (arith, blank))
-marked-statement P at header here (suc (suc zero)) blank quote = absurd (omega (arith, blank))
-marked-statement P at header here (suc (suc (suc zero))) blank quote = absurd (omega (arith, blank))
-marked-statement P at header here (suc (suc (suc (suc zero)))) blank quote = absurd (omega (arith, blank))
-marked-statement P at header here (suc (suc (suc (suc (suc zero))))) blank quote = absurd (omega (arith, blank))
-marked-statement P at header here (suc (suc (suc (suc (suc (suc zero)))))) blank quote = here
-marked-statement P at header here (suc (suc (suc (suc (suc (suc (suc i))))))) blank quote =
+marks-statement P at header here zero blank quote = absurd (omega (arith, blank))
+marks-statement P at header here (suc zero) blank quote = absurd (omega (arith, blank))
+marks-statement P at header here (suc (suc zero)) blank quote = absurd (omega (arith, blank))
+marks-statement P at header here (suc (suc (suc zero))) blank quote = absurd (omega (arith, blank))
+marks-statement P at header here (suc (suc (suc (suc zero)))) blank quote = absurd (omega (arith, blank))
+marks-statement P at header here (suc (suc (suc (suc (suc zero))))) blank quote = absurd (omega (arith, blank))
+marks-statement P at header here (suc (suc (suc (suc (suc (suc zero)))))) blank quote = here
+marks-statement P at header here (suc (suc (suc (suc (suc (suc (suc i))))))) blank quote =
     absurd (is_clear-says 0 (39 ∷ (octals_of header ++ codes "'")) i (clear-octals header) blank quote)
 
-pub marked-holds : (P : ℕ → Type 0) (at : ℕ) (text : List ℕ) (k : ℕ) → Marked P at text → Holds text k word → P (at + (k + 6))
-marked-holds P at text k m h =
+pub marked-statement : (P : ℕ → Type 0) (at : ℕ) (header : List ℕ) → P (at + 6) → Marked P at (statement_of header)
+unfolding statement_of
+marked-statement P at header here = record { starts = λ e. omega (arith, e); marks = marks-statement P at header here }
+
+pub marks-hold : (P : ℕ → Type 0) (at : ℕ) (text : List ℕ) (k : ℕ) → Marks P at text → Holds text k word → P (at + (k + 6))
+marks-hold P at text k m h =
     let next : suc (k + 6) ≡ k + 7 = omega arith in
     m (k + 6) (h.same 6 (omega arith)) (ap (λ i. get_or text i 0) next ∙ h.same 7 (omega arith))
 

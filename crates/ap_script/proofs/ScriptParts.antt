@@ -1,18 +1,19 @@
 -- The parts of the script: how long they are, and where quotes stand in them.
-use Rattle.std.proofs.Common.{◌≡◌, ◌≢◌, inl, inr, ℕ, zero, suc, ◌+◌, ◌*◌, ◌-◌, ◌/◌, ◌%◌, ◌^◌, ◌≤◌, ◌<◌, ◌==◌, ◌&&◌, not, cond, Bool, true, false, List, [], ◌∷◌, ◌++◌, length, get_or, nat_lt, Option, Some, None, refl, sym, ap, ◌∙◌, arith, length-append, append_assoc, subst}
-use Rattle.std.specs.Prelude.{codes, IfSome}
+use Rattle.std.proofs.Common.{◌≡◌, inl, inr, ℕ, zero, suc, ◌+◌, ◌*◌, ◌-◌, ◌/◌, ◌%◌, ◌^◌, ◌≤◌, ◌<◌, ◌&&◌, cond, Bool, true, false, List, [], ◌∷◌, ◌++◌, length, get_or, nat_lt, Option, Some, None, refl, sym, ap, ◌∙◌, arith, length-append, append_assoc, subst}
+use Rattle.std.specs.Prelude.{codes, IfSome, nat_eq}
 use Rattle.std.specs.Int.{byte_at, bytes_low_first}
-use Rattle.std.specs.List.{flat_map}
+use Rattle.std.specs.List.{flat_map, starts_with}
 use Rattle.std.specs.Option.{is_some}
 use Rattle.std.specs.Fmt.{decimal}
-use Rattle.std.proofs.lemmas.Bool.{cases_lt}
+use Rattle.std.proofs.lemmas.Bool.{and_parts, cases_lt}
 use Rattle.std.proofs.lemmas.Bool.Decides.{nat_tests}
 use Rattle.std.proofs.lemmas.List.{get_or_append_left, get_or-append_right}
 use Rattle.std.proofs.lemmas.Fmt.{decimal_by_steps, length-decimal-le}
 use Rattle.ap_fields.specs.Fields.{bytes_of, number_at}
+use Rattle.ap_fields.proofs.Numbers.{byte_at-lt}
 use Rattle.ap_elf.specs.Written.{header_bytes}
-use Rattle.ap_octal.specs.Statement.{is_letter, octal_of, octals_of, statement_of}
-use Rattle.ap_loader.specs.Embedded.{begins_header}
+use Rattle.ap_octal.specs.Statement.{octal_of, octals_of, statement_of}
+use Rattle.ap_octal.proofs.WriteLemmas.{length-octal_of}
 use Rattle.ap_check.specs.declared.options.Systems.{Systems}
 use Rattle.ap_elf.specs.declared.machine.Machine.{Machine}
 use Rattle.ap_elf.specs.declared.machine.Machine.TheVariants.{X64, A64}
@@ -21,7 +22,7 @@ use Rattle.ap_check.specs.Inputs.{Taken}
 use Rattle.ap_layout.specs.Positions.{PlacedInput, entry_count}
 use Rattle.ap_script.specs.Tables.{embedded_header, embedded_bytes}
 use Rattle.ap_script.specs.Script.{script_start, has_system, or_tests, system_line, dd_line, darwin_x64_lines, darwin_lines, system_lines, machine_start, machine_end, machine_lines, script_end, script_of, is_machine, header_for}
-use Rattle.ap_script.proofs.Quotes.{both, has_no_quote, no_quote-append}
+use Rattle.ap_script.proofs.Quotes.{digit-bare, has_no_quote, no_quote-append}
 use Rattle.ap_script.proofs.Openings.{Marked, marked-append, marked-quiet, marked-statement, Parts, parts-behind, parts-front}
 
 -- ---- embedded headers
@@ -30,16 +31,9 @@ pub length-embedded : (e : Taken) (t : ℕ) → length (embedded_bytes e t) ≡ 
 unfolding header_bytes embedded_header bytes_of
 length-embedded e t = refl
 
-low-byte : (i x : ℕ) → byte_at i x < 256
-low-byte zero x = omega arith
-low-byte (suc i) x = of-quotient (x / 256 ^ suc i)
-  where
-    of-quotient : (y : ℕ) → y % 256 < 256
-    of-quotient y = omega arith
-
 low-bytes : (i n x k : ℕ) → get_or (bytes_low_first i n x) k 0 < 256
 low-bytes i zero x k = omega arith
-low-bytes i (suc n) x zero = low-byte i x
+low-bytes i (suc n) x zero = byte_at-lt i x
 low-bytes i (suc n) x (suc k) = low-bytes (suc i) n x k
 
 abbrev AreBytes : List ℕ → Type 0
@@ -66,8 +60,8 @@ are_low (c ∷ text) = nat_lt c 256 && are_low text
 
 low-all : (text : List ℕ) → are_low text ≡ true → AreBytes text
 low-all [] h k = omega arith
-low-all (c ∷ text) h zero = grind (arith, nat_tests, (both (nat_lt c 256) (are_low text) h).0)
-low-all (c ∷ text) h (suc k) = low-all text (both (nat_lt c 256) (are_low text) h).1 k
+low-all (c ∷ text) h zero = grind (arith, nat_tests, (and_parts (nat_lt c 256) (are_low text) h).0)
+low-all (c ∷ text) h (suc k) = low-all text (and_parts (nat_lt c 256) (are_low text) h).1 k
 
 bytes-embedded : (e : Taken) (t : ℕ) → AreBytes (embedded_bytes e t)
 unfolding header_bytes embedded_header
@@ -99,15 +93,16 @@ embedded-number : (e : Taken) (t : ℕ) → number_at 2 18 (embedded_bytes e t) 
 unfolding number_at header_bytes embedded_header bytes_of
 embedded-number e t = two-bytes (number_of e.machine) (machine-small e.machine)
 
-embedded-begins : (e : Taken) (t n : ℕ) → begins_header n (embedded_bytes e t) ≡ (number_of e.machine == n)
+embedded-begins : (e : Taken) (t : ℕ) → starts_with nat_eq (embedded_bytes e t) (127 ∷ 69 ∷ 76 ∷ 70 ∷ 2 ∷ 1 ∷ []) ≡ true
 unfolding header_bytes embedded_header
-embedded-begins e t n = ap (λ x. x == n) (embedded-number e t)
+embedded-begins e t = refl
 
 -- what a header for a machine is
 pub record IsHeader (m : Machine) (header : List ℕ) : Type 0 where
   pub long : length header ≡ 64
   pub bytes : (k : ℕ) → get_or header k 0 < 256
-  pub begins : (n : ℕ) → begins_header n header ≡ (number_of m == n)
+  pub begins : starts_with nat_eq header (127 ∷ 69 ∷ 76 ∷ 70 ∷ 2 ∷ 1 ∷ []) ≡ true
+  pub number : number_at 2 18 header ≡ number_of m
 
 pub is_machine-same : (m n : Machine) → is_machine m n ≡ true → m ≡ n
 is_machine-same X64 X64 h = refl
@@ -119,7 +114,8 @@ is-header : (m : Machine) (e : Taken) (t : ℕ) → m ≡ e.machine → IsHeader
 is-header m e t same = record {
   long = length-embedded e t;
   bytes = bytes-embedded e t;
-  begins = λ n. embedded-begins e t n ∙ ap (λ k. number_of k == n) (sym same);
+  begins = embedded-begins e t;
+  number = embedded-number e t ∙ ap number_of (sym same);
 }
 
 header-by : (b : Bool) (m : Machine) (e : Taken) (t : ℕ) (later : Option (List ℕ)) → (b ≡ true → m ≡ e.machine) → IfSome later (IsHeader m) → IfSome (cond b (Some (embedded_bytes e t)) later) (IsHeader m)
@@ -130,16 +126,12 @@ pub header-is : (m : Machine) (ps : List PlacedInput) → IfSome (header_for m p
 header-is m [] = tt
 header-is m (p ∷ ps) = header-by (is_machine m p.input.machine) m p.input p.table (header_for m ps) (is_machine-same m p.input.machine) (header-is m ps)
 
--- ---- lengths
-
-octal_by : (b : Bool) (c : ℕ) → length (cond b (c ∷ []) (92 ∷ (48 + c / 64) ∷ (48 + c / 8 % 8) ∷ (48 + c % 8) ∷ [])) ≤ 4
-octal_by true c = omega arith
-octal_by false c = omega arith
+-- ---- statements
 
 pub length-octals : (header : List ℕ) → length (octals_of header) ≤ 4 * length header
 length-octals [] = omega arith
 length-octals (c ∷ header) =
-    let here = octal_by (is_letter c) c in
+    let here = length-octal_of c in
     let rest = length-octals header in
     let joined = length-append (octal_of c) (flat_map octal_of header) in
     omega arith
@@ -151,105 +143,118 @@ length-statement header =
     let behind = length-append (octals_of header) (codes "'") in
     omega arith
 
-pub length-script_start : length script_start ≡ 117
+-- ---- texts without quotes
+
+-- a text has no quote, and so many bytes at most
+pub record IsPlain (most : ℕ) (text : List ℕ) : Type 0 where
+  pub few : length text ≤ most
+  pub quiet : has_no_quote text ≡ true
+
+plain-literal : (text : List ℕ) → has_no_quote text ≡ true → IsPlain (length text) text
+plain-literal text quiet = record { few = omega arith; quiet = quiet }
+
+plain-append : (m n : ℕ) (xs ys : List ℕ) → IsPlain m xs → IsPlain n ys → IsPlain (m + n) (xs ++ ys)
+plain-append m n xs ys x y = record {
+  few = (let a = length-append xs ys in let h = x.few in let k = y.few in omega arith);
+  quiet = no_quote-append xs ys x.quiet y.quiet;
+}
+
+-- a literal in front of a text
+plain-front : (front : List ℕ) (n : ℕ) (text : List ℕ) → has_no_quote front ≡ true → IsPlain n text → IsPlain (length front + n) (front ++ text)
+plain-front front n text quiet h = plain-append (length front) n front text (plain-literal front quiet) h
+
+plain-chosen : (b : Bool) (n : ℕ) (text : List ℕ) → IsPlain n text → IsPlain n (cond b text [])
+plain-chosen true n text h = h
+plain-chosen false n text h = record { few = omega arith; quiet = refl }
+
+digit-quiet : (x : ℕ) → has_no_quote ((48 + x) ∷ []) ≡ true
+digit-quiet x = rw (digit-bare x).1 refl
+
+plain-number : (n : ℕ) → n ≤ 2048 → IsPlain 4 (decimal n)
+plain-number n small = record {
+  few = length-decimal-le 4 n (omega arith) (omega arith) (omega arith);
+  quiet =
+      decimal_by_steps (λ m digits. has_no_quote digits ≡ true) (λ m low. digit-quiet m)
+      (λ m digits high h. no_quote-append digits ((48 + m % 10) ∷ []) h (digit-quiet (m % 10))) n (omega arith);
+}
+
+pub plain-script_start : IsPlain 117 script_start
 unfolding script_start
-length-script_start = refl
+plain-script_start = plain-literal script_start refl
+
+plain-dd_line : (skip count : ℕ) → skip + count ≤ 2048 → IsPlain 82 (dd_line skip count)
+unfolding dd_line
+plain-dd_line skip count small =
+    let end = codes " conv=notrunc 2>/dev/null || exit 123\n" in
+    let numbers = decimal skip ++ (codes " count=" ++ (decimal count ++ end)) in
+    plain-front (codes "dd if=\"$t\" of=\"$t\" bs=8 skip=") 53 numbers refl
+    (plain-append 4 49 (decimal skip) (codes " count=" ++ (decimal count ++ end)) (plain-number skip (omega arith))
+    (plain-front (codes " count=") 42 (decimal count ++ end) refl (plain-append 4 38 (decimal count) end (plain-number count (omega arith)) (plain-literal end refl))))
+
+plain-darwin_x64 : (skip count : ℕ) → skip + count ≤ 2048 → IsPlain 179 (darwin_x64_lines skip count)
+unfolding darwin_x64_lines
+plain-darwin_x64 skip count small =
+    let start = codes "if [ \"$m\" = x86_64 ]; then\ncp \"$0\" \"$t\" || exit 121\nchmod 700 \"$t\" || exit 122\n" in
+    let end = codes "exec \"$t\" \"$@\"\nfi\n" in
+    plain-front start 100 (dd_line skip count ++ end) refl (plain-append 82 18 (dd_line skip count) end (plain-dd_line skip count small) (plain-literal end refl))
+
+plain-darwin : (x64 : Bool) (skip count : ℕ) → skip + count ≤ 2048 → IsPlain 218 (darwin_lines x64 skip count)
+unfolding darwin_lines
+plain-darwin x64 skip count small =
+    let lines = cond x64 (darwin_x64_lines skip count) [] in
+    let end = codes "exit 125\nfi\n" in
+    plain-front (codes "if [ \"$s\" = Darwin ]; then\n") 191 (lines ++ end) refl
+    (plain-append 179 12 lines end (plain-chosen x64 179 (darwin_x64_lines skip count) (plain-darwin_x64 skip count small)) (plain-literal end refl))
 
 abbrev line_by : Bool → Bool → Bool → List ℕ
 line_by a b c =
     codes "if " ++ (or_tests (cond a (codes "Linux" ∷ []) [] ++ (cond b (codes "FreeBSD" ∷ []) [] ++ cond c (codes "NetBSD" ∷ []) [])) ++ codes "; then\n")
 
-length-line : (a b c : Bool) → length (line_by a b c) ≤ 69
-length-line true true true = omega arith
-length-line true true false = omega arith
-length-line true false true = omega arith
-length-line true false false = omega arith
-length-line false true true = omega arith
-length-line false true false = omega arith
-length-line false false true = omega arith
-length-line false false false = omega arith
+plain-line : (a b c : Bool) → IsPlain 69 (line_by a b c)
+plain-line true true true = record { few = omega arith; quiet = refl }
+plain-line true true false = record { few = omega arith; quiet = refl }
+plain-line true false true = record { few = omega arith; quiet = refl }
+plain-line true false false = record { few = omega arith; quiet = refl }
+plain-line false true true = record { few = omega arith; quiet = refl }
+plain-line false true false = record { few = omega arith; quiet = refl }
+plain-line false false true = record { few = omega arith; quiet = refl }
+plain-line false false false = record { few = omega arith; quiet = refl }
 
-quiet-line : (a b c : Bool) → has_no_quote (line_by a b c) ≡ true
-quiet-line true true true = refl
-quiet-line true true false = refl
-quiet-line true false true = refl
-quiet-line true false false = refl
-quiet-line false true true = refl
-quiet-line false true false = refl
-quiet-line false false true = refl
-quiet-line false false false = refl
-
-line-is : (systems : Systems) → system_line systems ≡ line_by (has_system systems 1) (has_system systems 2) (has_system systems 4)
+plain-system_line : (systems : Systems) → IsPlain 69 (system_line systems)
 unfolding system_line
-line-is systems = refl
+plain-system_line systems = plain-line (has_system systems 1) (has_system systems 2) (has_system systems 4)
 
-pub length-system_line : (systems : Systems) → length (system_line systems) ≤ 69
-length-system_line systems = let l = length-line (has_system systems 1) (has_system systems 2) (has_system systems 4) in let e = ap length (line-is systems) in omega arith
+pub plain-system_lines : (systems : Systems) (x : Option (List ℕ)) (skip count : ℕ) → skip + count ≤ 2048 → IsPlain 287 (system_lines systems x skip count)
+unfolding system_lines
+plain-system_lines systems x skip count small =
+    let darwin = darwin_lines (is_some x) skip count in
+    plain-append 218 69 (cond (has_system systems 16) darwin []) (system_line systems) (plain-chosen (has_system systems 16) 218 darwin (plain-darwin (is_some x) skip count small)) (plain-system_line systems)
 
-pub length-machine_start : (m : Machine) → length (machine_start m) ≤ 100
+pub plain-machine_start : (m : Machine) → IsPlain 100 (machine_start m)
 unfolding machine_start
-length-machine_start X64 = (let l : length (machine_start X64) ≡ 99 = refl in omega arith)
-length-machine_start A64 = (let l : length (machine_start A64) ≡ 100 = refl in omega arith)
+plain-machine_start X64 = (let l : length (machine_start X64) ≡ 99 = refl in record { few = omega arith; quiet = refl })
+plain-machine_start A64 = plain-literal (machine_start A64) refl
 
-pub length-machine_end : length machine_end ≡ 39
+plain-machine_end : IsPlain 39 machine_end
 unfolding machine_end
-length-machine_end = refl
+plain-machine_end = plain-literal machine_end refl
 
-pub length-script_end : length script_end ≡ 12
+plain-script_end : IsPlain 12 script_end
 unfolding script_end
-length-script_end = refl
+plain-script_end = plain-literal script_end refl
+
+-- ---- lengths of texts with statements
 
 pub length-machine_lines : (m : Machine) (header : Option (List ℕ)) → IfSome header (IsHeader m) → length (machine_lines m header) ≤ 404
 length-machine_lines m None h = omega arith
 length-machine_lines m (Some header) h =
     let a = length-append (machine_start m) (statement_of header ++ machine_end) in
     let b = length-append (statement_of header) machine_end in
-    let s = length-machine_start m in
+    let s = (plain-machine_start m).few in
     let t = length-statement header in
     let o = length-octals header in
     let long = h.long in
-    let e = length-machine_end in
-    omega arith
-
-length-number : (n : ℕ) → n ≤ 2048 → length (decimal n) ≤ 4
-length-number n small = length-decimal-le 4 n (omega arith) (omega arith) (omega arith)
-
-length-dd_line : (skip count : ℕ) → skip + count ≤ 2048 → length (dd_line skip count) ≤ 82
-unfolding dd_line
-length-dd_line skip count small =
-    let end = codes " conv=notrunc 2>/dev/null || exit 123\n" in
-    let a = length-append (decimal skip) (codes " count=" ++ (decimal count ++ end)) in
-    let b = length-append (decimal count) end in
-    let s = length-number skip (omega arith) in
-    let c = length-number count (omega arith) in
-    omega arith
-
-length-darwin_x64 : (skip count : ℕ) → skip + count ≤ 2048 → length (darwin_x64_lines skip count) ≤ 179
-unfolding darwin_x64_lines
-length-darwin_x64 skip count small =
-    let a = length-append (dd_line skip count) (codes "exec \"$t\" \"$@\"\nfi\n") in
-    let d = length-dd_line skip count small in
-    omega arith
-
-length-darwin : (x64 : Bool) (skip count : ℕ) → skip + count ≤ 2048 → length (darwin_lines x64 skip count) ≤ 218
-unfolding darwin_lines
-length-darwin true skip count small =
-    let a = length-append (darwin_x64_lines skip count) (codes "exit 125\nfi\n") in
-    let d = length-darwin_x64 skip count small in
-    omega arith
-length-darwin false skip count small = omega arith
-
-length-chosen : (b : Bool) (n : ℕ) (text : List ℕ) → length text ≤ n → length (cond b text []) ≤ n
-length-chosen true n text h = h
-length-chosen false n text h = omega arith
-
-pub length-system_lines : (systems : Systems) (x : Option (List ℕ)) (skip count : ℕ) → skip + count ≤ 2048 → length (system_lines systems x skip count) ≤ 287
-unfolding system_lines
-length-system_lines systems x skip count small =
-    let darwin = cond (has_system systems 16) (darwin_lines (is_some x) skip count) [] in
-    let a = length-append darwin (system_line systems) in
-    let d = length-chosen (has_system systems 16) 218 (darwin_lines (is_some x) skip count) (length-darwin (is_some x) skip count small) in
-    let l = length-system_line systems in
+    let e = plain-machine_end.few in
     omega arith
 
 -- the script has at most 1224 bytes
@@ -261,105 +266,14 @@ length-script systems x y skip count hx hy small =
     let b = length-append lines (machine_lines X64 x ++ (machine_lines A64 y ++ script_end)) in
     let c = length-append (machine_lines X64 x) (machine_lines A64 y ++ script_end) in
     let d = length-append (machine_lines A64 y) script_end in
-    let l1 = length-script_start in
-    let l2 = length-system_lines systems x skip count small in
+    let l1 = plain-script_start.few in
+    let l2 = (plain-system_lines systems x skip count small).few in
     let l3 = length-machine_lines X64 x hx in
     let l4 = length-machine_lines A64 y hy in
-    let l5 = length-script_end in
+    let l5 = plain-script_end.few in
     omega arith
 
 -- ---- quotes
-
-quiet-script_start : has_no_quote script_start ≡ true
-unfolding script_start
-quiet-script_start = refl
-
-quiet-system_line : (systems : Systems) → has_no_quote (system_line systems) ≡ true
-quiet-system_line systems = ap has_no_quote (line-is systems) ∙ quiet-line (has_system systems 1) (has_system systems 2) (has_system systems 4)
-
-digit-quiet : (x : ℕ) → not (48 + x == 39) ≡ true
-digit-quiet x = grind (arith, nat_tests)
-
-quiet-digit : (x : ℕ) → has_no_quote ((48 + x) ∷ []) ≡ true
-quiet-digit x = rw (digit-quiet x) refl
-
-quiet-number : (n : ℕ) → n ≤ 2048 → has_no_quote (decimal n) ≡ true
-quiet-number n small =
-    decimal_by_steps (λ m digits. has_no_quote digits ≡ true) (λ m low. quiet-digit m)
-    (λ m digits high h. no_quote-append digits ((48 + m % 10) ∷ []) h (quiet-digit (m % 10))) n (omega arith)
-
-quiet-dd_line : (skip count : ℕ) → skip + count ≤ 2048 → has_no_quote (dd_line skip count) ≡ true
-unfolding dd_line
-quiet-dd_line skip count small =
-    let end = codes " conv=notrunc 2>/dev/null || exit 123\n" in
-    no_quote-append (decimal skip) (codes " count=" ++ (decimal count ++ end)) (quiet-number skip (omega arith))
-    (no_quote-append (decimal count) end (quiet-number count (omega arith)) refl)
-
-quiet-darwin_x64 : (skip count : ℕ) → skip + count ≤ 2048 → has_no_quote (darwin_x64_lines skip count) ≡ true
-unfolding darwin_x64_lines
-quiet-darwin_x64 skip count small = no_quote-append (dd_line skip count) (codes "exec \"$t\" \"$@\"\nfi\n") (quiet-dd_line skip count small) refl
-
-quiet-darwin : (x64 : Bool) (skip count : ℕ) → skip + count ≤ 2048 → has_no_quote (darwin_lines x64 skip count) ≡ true
-unfolding darwin_lines
-quiet-darwin true skip count small = no_quote-append (darwin_x64_lines skip count) (codes "exit 125\nfi\n") (quiet-darwin_x64 skip count small) refl
-quiet-darwin false skip count small = refl
-
-quiet-chosen : (b : Bool) (text : List ℕ) → has_no_quote text ≡ true → has_no_quote (cond b text []) ≡ true
-quiet-chosen true text h = h
-quiet-chosen false text h = refl
-
-quiet-system_lines : (systems : Systems) (x : Option (List ℕ)) (skip count : ℕ) → skip + count ≤ 2048 → has_no_quote (system_lines systems x skip count) ≡ true
-unfolding system_lines
-quiet-system_lines systems x skip count small =
-    no_quote-append (cond (has_system systems 16) (darwin_lines (is_some x) skip count) []) (system_line systems)
-    (quiet-chosen (has_system systems 16) (darwin_lines (is_some x) skip count) (quiet-darwin (is_some x) skip count small)) (quiet-system_line systems)
-
-quiet-machine_start : (m : Machine) → has_no_quote (machine_start m) ≡ true
-unfolding machine_start
-quiet-machine_start X64 = refl
-quiet-machine_start A64 = refl
-
-quiet-machine_end : has_no_quote machine_end ≡ true
-unfolding machine_end
-quiet-machine_end = refl
-
-quiet-script_end : has_no_quote script_end ≡ true
-unfolding script_end
-quiet-script_end = refl
-
--- a text doesn't begin with a quote
-abbrev pub StartsBare : List ℕ → Type 0
-StartsBare text = get_or text 0 0 ≢ 39
-
-starts-machine_end : StartsBare machine_end
-unfolding machine_end
-starts-machine_end e = omega (arith, e)
-
-starts-statement : (header behind : List ℕ) → StartsBare (statement_of header ++ behind)
-unfolding statement_of
-starts-statement header behind e = omega (arith, e)
-
-starts-lines : (m : Machine) (header : Option (List ℕ)) (behind : List ℕ) → StartsBare behind → StartsBare (machine_lines m header ++ behind)
-unfolding machine_start
-starts-lines m None behind bare e = bare e
-starts-lines m (Some header) behind bare e = omega (arith, e)
-
-starts-script_end : (behind : List ℕ) → StartsBare (script_end ++ behind)
-unfolding script_end
-starts-script_end behind e = omega (arith, e)
-
-starts-system_line : (systems : Systems) (behind : List ℕ) → StartsBare (system_line systems ++ behind)
-unfolding system_line
-starts-system_line systems behind e = omega (arith, e)
-
-starts-chosen : (b x64 : Bool) (systems : Systems) (skip count : ℕ) (behind : List ℕ) → StartsBare ((cond b (darwin_lines x64 skip count) [] ++ system_line systems) ++ behind)
-unfolding darwin_lines
-starts-chosen true x64 systems skip count behind e = omega (arith, e)
-starts-chosen false x64 systems skip count behind e = starts-system_line systems behind e
-
-starts-system_lines : (systems : Systems) (x : Option (List ℕ)) (skip count : ℕ) (behind : List ℕ) → StartsBare (system_lines systems x skip count ++ behind)
-unfolding system_lines
-starts-system_lines systems x skip count behind = starts-chosen (has_system systems 16) (is_some x) systems skip count behind
 
 -- where there is a header, its statement is marked
 abbrev pub MarksLines : (ℕ → Type 0) → ℕ → Machine → Option (List ℕ) → Type 0
@@ -369,11 +283,10 @@ MarksLines P at m (Some header) = P (at + length (machine_start m) + 6)
 marked-lines : (P : ℕ → Type 0) (at : ℕ) (m : Machine) (header : Option (List ℕ)) → MarksLines P at m header → Marked P at (machine_lines m header)
 marked-lines P at m None h = marked-quiet P at [] refl
 marked-lines P at m (Some header) h =
-    marked-append P at (machine_start m) (statement_of header ++ machine_end) (marked-quiet P at (machine_start m) (quiet-machine_start m))
-    (marked-append P (at + length (machine_start m)) (statement_of header) machine_end
-    (marked-statement P (at + length (machine_start m)) header h)
-    (marked-quiet P (at + length (machine_start m) + length (statement_of header)) machine_end quiet-machine_end) starts-machine_end)
-    (starts-statement header machine_end)
+    let place : ℕ = at + length (machine_start m) in
+    marked-append P at (machine_start m) (statement_of header ++ machine_end) (marked-quiet P at (machine_start m) (plain-machine_start m).quiet)
+    (marked-append P place (statement_of header) machine_end (marked-statement P place header h)
+    (marked-quiet P (place + length (statement_of header)) machine_end plain-machine_end.quiet))
 
 -- where the lines for machines start in a script that starts at a place
 abbrev pub lines_from : Systems → Option (List ℕ) → ℕ → ℕ → ℕ → ℕ
@@ -395,16 +308,12 @@ marked-script P at systems x y skip count behind small quiet hx hy =
     (append_assoc (machine_lines X64 x) (machine_lines A64 y ++ script_end) behind
     ∙ ap (λ r. machine_lines X64 x ++ r) (append_assoc (machine_lines A64 y) script_end behind))) in
     subst (Marked P at) (sym parts)
-    (marked-append P at script_start (test ++ (machine_lines X64 x ++ (machine_lines A64 y ++ end))) (marked-quiet P at script_start quiet-script_start)
+    (marked-append P at script_start (test ++ (machine_lines X64 x ++ (machine_lines A64 y ++ end))) (marked-quiet P at script_start plain-script_start.quiet)
     (marked-append P (at + length script_start) test (machine_lines X64 x ++ (machine_lines A64 y ++ end))
-    (marked-quiet P (at + length script_start) test (quiet-system_lines systems x skip count small))
+    (marked-quiet P (at + length script_start) test (plain-system_lines systems x skip count small).quiet)
     (marked-append P lines (machine_lines X64 x) (machine_lines A64 y ++ end) (marked-lines P lines X64 x hx)
     (marked-append P (lines + length (machine_lines X64 x)) (machine_lines A64 y) end (marked-lines P (lines + length (machine_lines X64 x)) A64 y hy)
-    (marked-quiet P (lines + length (machine_lines X64 x) + length (machine_lines A64 y)) end (no_quote-append script_end behind quiet-script_end quiet))
-    (starts-script_end behind))
-    (starts-lines A64 y end (starts-script_end behind)))
-    (starts-lines X64 x (machine_lines A64 y ++ end) (starts-lines A64 y end (starts-script_end behind))))
-    (starts-system_lines systems x skip count (machine_lines X64 x ++ (machine_lines A64 y ++ end))))
+    (marked-quiet P (lines + length (machine_lines X64 x) + length (machine_lines A64 y)) end (no_quote-append script_end behind plain-script_end.quiet quiet))))))
 
 -- ---- where the statements stand
 
@@ -412,32 +321,29 @@ marked-script P at systems x y skip count behind small quiet hx hy =
 abbrev pub place_behind : Systems → Option (List ℕ) → ℕ → ℕ → ℕ → ℕ
 place_behind systems x skip count far = length script_start + (length (system_lines systems x skip count) + far)
 
-parts-lines : (m : Machine) (header : List ℕ) → Parts (machine_lines m (Some header)) (length (machine_start m)) header
-parts-lines m header = record { front = machine_start m; behind = machine_end; long = refl; whole = refl }
+parts-lines : (m : Machine) (lines : Option (List ℕ)) (header : List ℕ) → lines ≡ Some header → Parts (machine_lines m lines) (length (machine_start m)) header
+parts-lines m lines header is =
+    subst (λ o. Parts (machine_lines m o) (length (machine_start m)) header) (sym is) (record { front = machine_start m; behind = machine_end; long = refl; whole = refl })
 
-pub parts-x64 : (systems : Systems) (header : List ℕ) (y : Option (List ℕ)) (skip count : ℕ)
-    → Parts (script_of systems (Some header) y skip count) (place_behind systems (Some header) skip count (length (machine_start X64))) header
+pub parts-x64 : (systems : Systems) (x y : Option (List ℕ)) (skip count : ℕ) (header : List ℕ) → x ≡ Some header
+    → Parts (script_of systems x y skip count) (place_behind systems x skip count (length (machine_start X64))) header
 unfolding script_of
-parts-x64 systems header y skip count =
-    let test = system_lines systems (Some header) skip count in
+parts-x64 systems x y skip count header is =
+    let test = system_lines systems x skip count in
     let rest = machine_lines A64 y ++ script_end in
     let place : ℕ = length (machine_start X64) in
-    parts-behind script_start (test ++ (machine_lines X64 (Some header) ++ rest)) (length test + place) header
-    (parts-behind test (machine_lines X64 (Some header) ++ rest) place header
-    (parts-front (machine_lines X64 (Some header)) rest place header (parts-lines X64 header)))
+    parts-behind script_start (test ++ (machine_lines X64 x ++ rest)) (length test + place) header
+    (parts-behind test (machine_lines X64 x ++ rest) place header
+    (parts-front (machine_lines X64 x) rest place header (parts-lines X64 x header is)))
 
-pub parts-a64 : (systems : Systems) (x : Option (List ℕ)) (header : List ℕ) (skip count : ℕ)
-    → Parts (script_of systems x (Some header) skip count) (place_behind systems x skip count (length (machine_lines X64 x) + length (machine_start A64))) header
+pub parts-a64 : (systems : Systems) (x y : Option (List ℕ)) (skip count : ℕ) (header : List ℕ) → y ≡ Some header
+    → Parts (script_of systems x y skip count) (place_behind systems x skip count (length (machine_lines X64 x) + length (machine_start A64))) header
 unfolding script_of
-parts-a64 systems x header skip count =
+parts-a64 systems x y skip count header is =
     let test = system_lines systems x skip count in
-    let rest = machine_lines A64 (Some header) ++ script_end in
+    let rest = machine_lines A64 y ++ script_end in
     let place : ℕ = length (machine_start A64) in
     parts-behind script_start (test ++ (machine_lines X64 x ++ rest)) (length test + (length (machine_lines X64 x) + place)) header
     (parts-behind test (machine_lines X64 x ++ rest) (length (machine_lines X64 x) + place) header
     (parts-behind (machine_lines X64 x) rest place header
-    (parts-front (machine_lines A64 (Some header)) script_end place header (parts-lines A64 header))))
-
-pub starts-script : (systems : Systems) (x y : Option (List ℕ)) (skip count : ℕ) (behind : List ℕ) → StartsBare (script_of systems x y skip count ++ behind)
-unfolding script_of script_start
-starts-script systems x y skip count behind e = omega (arith, e)
+    (parts-front (machine_lines A64 y) script_end place header (parts-lines A64 y header is))))

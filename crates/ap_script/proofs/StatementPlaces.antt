@@ -9,7 +9,6 @@ use Rattle.ap_octal.specs.Embedded.{Opens, Closes, Embeds}
 use Rattle.ap_octal.specs.OctalText.{IsOctal}
 use Rattle.ap_octal.specs.Statement.{octals_of, statement_of}
 use Rattle.ap_octal.proofs.OctalLemmas.{octal-bytes}
-use Rattle.ap_check.specs.declared.options.Systems.{Systems}
 use Rattle.ap_check.specs.declared.options.Options.{Options}
 use Rattle.ap_elf.specs.declared.machine.Machine.{Machine}
 use Rattle.ap_elf.specs.declared.machine.Machine.TheVariants.{X64, A64}
@@ -20,8 +19,8 @@ use Rattle.ap_script.specs.Delimiter.{delimiter_number}
 use Rattle.ap_script.specs.Blocks.{opening, body_of, closing, script_for, shell_text, spaces, block_of}
 use Rattle.ap_script.specs.Stands.{machines_start, statement_place, place_if, statement_places}
 use Rattle.ap_script.proofs.Quotes.{has_no_quote-says, bare-no_quote, bare-octals, no_quote-spaces}
-use Rattle.ap_script.proofs.Openings.{word, holds-cut, not-in-zeros, apart-zero, apart-newline, parted, Marked, marked-append, marked-quiet, marked-clear, marked-holds, Parts, parts-behind, parts-front, parts-holds}
-use Rattle.ap_script.proofs.ScriptParts.{MarksLines, lines_from, place_behind, marked-script, starts-script, parts-x64, parts-a64, IsHeader, length-statement}
+use Rattle.ap_script.proofs.Openings.{word, holds-cut, not-in-zeros, apart-zero, apart-newline, parted, Marked, marked-append, marked-quiet, marks-clear, marks-hold, Parts, parts-behind, parts-front, parts-holds}
+use Rattle.ap_script.proofs.ScriptParts.{MarksLines, lines_from, place_behind, marked-script, parts-x64, parts-a64, IsHeader, length-statement}
 use Rattle.ap_script.proofs.TableZeros.{body-zeros}
 use Rattle.ap_script.proofs.BlockParts.{small-units, length-opening, length-body, length-closing, window_text, length-window, block-parts, window-parts, behind_body, clear-opening, quiet-closing, starts-closing, starts-body}
 
@@ -88,10 +87,9 @@ marked-behind options inputs l fits =
     (marked-quiet (IsBlank x y start) l.body_end (closing number) (quiet-closing number))
     (marked-script (IsBlank x y start) at options.systems x y skip count fill (small-units options inputs l fits) (no_quote-spaces (WINDOW - length (shell_text options inputs l)))
     (marks-x64 x y start lines same) (marks-a64 x y start lines same))
-    (starts-script options.systems x y skip count fill)
 
 none-opening : (number k : ℕ) → Holds (opening number) k word → ⊥
-none-opening number k h = marked-holds (λ i. ⊥) 0 (opening number) k (marked-clear (λ i. ⊥) 0 (opening number) (clear-opening number)) h
+none-opening number k h = marks-hold (λ i. ⊥) 0 (opening number) k (marks-clear (λ i. ⊥) 0 (opening number) (clear-opening number)) h
 
 holds-places : (options : Options) (inputs : List Taken) (l : Positions) (k : ℕ) → All Meets inputs → Fits options inputs l → Holds (window_text options inputs l) k word → Contains (statement_places options inputs l) k
 holds-places options inputs l k meets fits h =
@@ -107,8 +105,8 @@ holds-places options inputs l k meets fits h =
         | inl inside ↦ absurd (not-in-zeros body (k - length (opening number)) (body-zeros options inputs l meets fits) inside)
         | inr (beyond, last) ↦
             (let i : ℕ = k - length (opening number) - length body in
-            marked-holds (IsBlank (header_for X64 (placed_inputs inputs l)) (header_for A64 (placed_inputs inputs l)) (machines_start options inputs l)) l.body_end behind i
-            (marked-behind options inputs l fits) last k (omega arith))
+            marks-hold (IsBlank (header_for X64 (placed_inputs inputs l)) (header_for A64 (placed_inputs inputs l)) (machines_start options inputs l)) l.body_end behind i
+            (marked-behind options inputs l fits).marks last k (omega arith))
       ]
     ]
 
@@ -120,16 +118,6 @@ opens-places options inputs l rest k meets fits o =
     (holds-cut (window_text options inputs l) (zeros (BLOCK - WINDOW) ++ rest) k (omega arith) (subst (λ w. Holds w k word) (block-parts options inputs l rest) o.stands))
 
 -- ---- there
-
-script-x64 : (systems : Systems) (x y : Option (List ℕ)) (skip count : ℕ) (header : List ℕ) → x ≡ Some header
-    → Parts (script_of systems x y skip count) (place_behind systems x skip count (length (machine_start X64))) header
-script-x64 systems x y skip count header is =
-    subst (λ o. Parts (script_of systems o y skip count) (place_behind systems o skip count (length (machine_start X64))) header) (sym is) (parts-x64 systems header y skip count)
-
-script-a64 : (systems : Systems) (x y : Option (List ℕ)) (skip count : ℕ) (header : List ℕ) → y ≡ Some header
-    → Parts (script_of systems x y skip count) (place_behind systems x skip count (length (machine_lines X64 x) + length (machine_start A64))) header
-script-a64 systems x y skip count header is =
-    subst (λ o. Parts (script_of systems x o skip count) (place_behind systems x skip count (length (machine_lines X64 x) + length (machine_start A64))) header) (sym is) (parts-a64 systems x header skip count)
 
 parts-script : (options : Options) (inputs : List Taken) (l : Positions) (place : ℕ) (header : List ℕ) → Fits options inputs l → Parts (script_for options inputs l) place header
     → Parts (window_text options inputs l) (l.body_end + (17 + place)) header
@@ -155,13 +143,13 @@ parts-window options inputs l X64 header fits is =
     let place : ℕ = place_behind options.systems x (l.mach_at / 8) (l.mach_len / 8) (length (machine_start X64)) in
     let same : l.body_end + (17 + place) ≡ statement_place options inputs l X64 = omega arith in
     subst (λ n. Parts (window_text options inputs l) n header) same
-    (parts-script options inputs l place header fits (script-x64 options.systems x (header_for A64 (placed_inputs inputs l)) (l.mach_at / 8) (l.mach_len / 8) header is))
+    (parts-script options inputs l place header fits (parts-x64 options.systems x (header_for A64 (placed_inputs inputs l)) (l.mach_at / 8) (l.mach_len / 8) header is))
 parts-window options inputs l A64 header fits is =
     let x = header_for X64 (placed_inputs inputs l) in
     let place : ℕ = place_behind options.systems x (l.mach_at / 8) (l.mach_len / 8) (length (machine_lines X64 x) + length (machine_start A64)) in
     let same : l.body_end + (17 + place) ≡ statement_place options inputs l A64 = omega arith in
     subst (λ n. Parts (window_text options inputs l) n header) same
-    (parts-script options inputs l place header fits (script-a64 options.systems x (header_for A64 (placed_inputs inputs l)) (l.mach_at / 8) (l.mach_len / 8) header is))
+    (parts-script options inputs l place header fits (parts-a64 options.systems x (header_for A64 (placed_inputs inputs l)) (l.mach_at / 8) (l.mach_len / 8) header is))
 
 pub parts-block : (options : Options) (inputs : List Taken) (l : Positions) (rest : List ℕ) (m : Machine) (header : List ℕ) → Fits options inputs l → header_for m (placed_inputs inputs l) ≡ Some header
     → Parts (block_of options inputs l ++ rest) (statement_place options inputs l m) header

@@ -1,12 +1,10 @@
 -- How long program header tables are, and where they stand.
 use Rattle.std.proofs.Common.{◌≡◌, ℕ, suc, ◌+◌, ◌*◌, List, [], ◌∷◌, ◌++◌, length, map, refl, sym, ap, ◌∙◌, arith, length-append, append_assoc, subst, Option, Some, None}
-use Rattle.std.specs.List.{flat_map}
 use Rattle.std.proofs.lemmas.List.{length-map}
-use Rattle.ap_fields.specs.Fields.{bytes_of}
 use Rattle.ap_fields.specs.Bytes.{Holds}
 use Rattle.ap_fields.proofs.Bytes.{holds-part}
 use Rattle.ap_elf.specs.declared.types.Entry.{Entry}
-use Rattle.ap_elf.specs.Written.{entry_bytes, table_bytes}
+use Rattle.ap_elf.proofs.ReadBack.{length-table_bytes}
 use Rattle.ap_check.specs.declared.load.Load.{Load}
 use Rattle.ap_elf.specs.Machines.{granule_of}
 use Rattle.ap_check.specs.Inputs.{Taken}
@@ -16,19 +14,6 @@ use Rattle.ap_layout.specs.Positions.{PlacedInput, one_if, entry_count, table_le
 use Rattle.ap_script.specs.Tables.{load_entries, stack_entries, note_entry, tls_entries, table_of, table_text}
 use Rattle.ap_script.specs.Blocks.{tables_text}
 use Rattle.ap_script.specs.Stands.{HoldsTables}
-
-pub length-entry_bytes : (p : Entry) → length (entry_bytes p) ≡ 56
-unfolding entry_bytes bytes_of
-length-entry_bytes p = refl
-
-pub length-table_bytes : (entries : List Entry) → length (table_bytes entries) ≡ 56 * length entries
-unfolding table_bytes
-length-table_bytes [] = refl
-length-table_bytes (p ∷ entries) =
-    let a = length-append (entry_bytes p) (flat_map entry_bytes entries) in
-    let here = length-entry_bytes p in
-    let rest = length-table_bytes entries in
-    omega arith
 
 length-loads : (g : ℕ) (news : List Area) (loads : List Load) (areas : List Area) → ServeAll g news loads areas → length (load_entries g loads areas) ≡ length loads
 length-loads g news [] [] h = refl

@@ -1,11 +1,12 @@
 -- Each eighth byte of a program header table is zero.
-use Rattle.std.proofs.Common.{◌≡◌, ◌⊎◌, inl, inr, ℕ, zero, suc, ◌+◌, ◌*◌, ◌-◌, ◌/◌, ◌%◌, ◌^◌, ◌≤◌, ◌<◌, ◌==◌, ◌&&◌, ◌||◌, not, cond, Bool, true, false, List, [], ◌∷◌, ◌++◌, length, map, get_or, refl, sym, ap, ◌∙◌, subst, arith, Option, Some, None, nat_le, nat_lt}
+use Rattle.std.proofs.Common.{◌≡◌, inl, inr, ℕ, zero, suc, ◌+◌, ◌*◌, ◌-◌, ◌/◌, ◌%◌, ◌^◌, ◌≤◌, ◌<◌, ◌==◌, ◌&&◌, not, cond, Bool, true, false, List, [], ◌∷◌, ◌++◌, length, map, get_or, refl, sym, ap, ◌∙◌, subst, arith, Option, Some, None, nat_le, nat_lt}
 use Rattle.std.specs.Prelude.{All, IfSome, bit_and}
 use Rattle.std.specs.Int.{byte_at}
 use Rattle.std.specs.List.{flat_map}
-use Rattle.std.proofs.lemmas.Bool.{cases_lt}
+use Rattle.std.proofs.lemmas.Bool.{and_parts, cases_lt, or_cases}
 use Rattle.std.proofs.lemmas.Bool.Decides.{nat_tests}
 use Rattle.std.proofs.lemmas.Nat.{and_mask}
+use Rattle.std.proofs.lemmas.List.Elements.{All-tail}
 use Rattle.std.proofs.lemmas.List.{get_or_append_left, get_or-append_right, get_or_past}
 use Rattle.ap_fields.specs.Fields.{bytes_of}
 use Rattle.ap_fields.specs.Bytes.{zeros}
@@ -14,6 +15,7 @@ use Rattle.ap_fields.specs.declared.sizes.TheConstants.{BLOCK}
 use Rattle.ap_fields.proofs.Bytes.{length-zeros, get_or-zeros}
 use Rattle.ap_elf.specs.declared.types.Entry.{Entry}
 use Rattle.ap_elf.specs.Written.{entry_bytes, table_bytes}
+use Rattle.ap_elf.proofs.ReadBack.{length-entry_bytes}
 use Rattle.ap_elf.specs.declared.machine.Machine.{Machine}
 use Rattle.ap_elf.specs.declared.machine.Machine.TheVariants.{X64, A64}
 use Rattle.ap_check.specs.declared.load.Load.{Load}
@@ -21,12 +23,15 @@ use Rattle.ap_elf.specs.Machines.{granule_of}
 use Rattle.ap_check.specs.declared.options.Options.{Options}
 use Rattle.ap_check.specs.Inputs.{Taken, IsLoad, AreLoads, IsTls, Meets, has_part, in_part, is_note}
 use Rattle.ap_layout.specs.declared.layout.Area.{Area}
-use Rattle.ap_layout.specs.Areas.{end_of, after, end_from, is_new, new_areas, Among, Serves, ServeAll}
+use Rattle.ap_layout.specs.declared.sizes.TheConstants.{FILE_TOP}
+use Rattle.ap_layout.specs.Areas.{new_areas}
 use Rattle.ap_layout.specs.Positions.{Positions, Fits, entry_count, PlacedInput, AreServed, all_areas, only_inputs, placed_inputs}
 use Rattle.ap_script.specs.Tables.{load_entry, load_entries, stack_entries, is_backed, place_of, note_entry, tls_entries, table_of, table_text}
 use Rattle.ap_script.specs.Blocks.{tables_text, body_of}
 use Rattle.ap_script.specs.Stands.{HasZeros}
-use Rattle.ap_script.proofs.TableLengths.{length-entry_bytes, length-table_text}
+use Rattle.ap_script.specs.Places.{IsKnown}
+use Rattle.ap_script.proofs.Fitting.{fits-known}
+use Rattle.ap_script.proofs.TableLengths.{length-table_text}
 
 -- ---- texts whose eighth bytes are zero
 
@@ -85,70 +90,11 @@ unfolding table_bytes
 eighths-table [] h = λ i. refl
 eighths-table (p ∷ entries) h = eighths-append 7 (entry_bytes p) (flat_map entry_bytes entries) (length-entry_bytes p) (eighths-entry p h.0) (eighths-table entries h.1)
 
--- ---- areas that start below 2^31
-
-abbrev pub AreLow : List Area → Type 0
-AreLow [] = Unit {0}
-AreLow (a ∷ areas) = (a.file < 2 ^ 31) × AreLow areas
-
-abbrev pub NewsLow : List Area → Type 0
-NewsLow news = (a : Area) → Among a news → a.file < 2 ^ 31
-
-zero_or : (n : ℕ) → (n ≡ 0) ⊎ (0 < n)
-zero_or zero = inl refl
-zero_or (suc n) = inr (omega arith)
-
-low-area : (g : ℕ) (news : List Area) (p : Load) (a : Area) → NewsLow news → Serves g news p a → a.file < 2 ^ 31
-low-area g news p a low s =
-    elim (zero_or p.filesz) [
-      | inl none ↦ (let e : a.file ≡ 0 = ap (λ (x : Area). x.file) (s.bare none) in omega arith)
-      | inr some ↦ low a (s.new some)
-    ]
-
-low-areas : (g : ℕ) (news : List Area) (loads : List Load) (areas : List Area) → NewsLow news → ServeAll g news loads areas → AreLow areas
-low-areas g news [] [] low s = tt
-low-areas g news [] (a ∷ areas) low s = absurd s
-low-areas g news (p ∷ loads) [] low s = absurd s
-low-areas g news (p ∷ loads) (a ∷ areas) low s = (low-area g news p a low s.0, low-areas g news loads areas low s.1)
-
-among-by : (t : Bool) (a b : Area) (newer others areas : List Area) → (Among a newer → Among a areas) → (Among a others → Among a areas) → Among a (cond t (b ∷ newer) others) → Among a (b ∷ areas)
-among-by true a b newer others areas one other (inl is) = inl is
-among-by true a b newer others areas one other (inr later) = inr (one later)
-among-by false a b newer others areas one other later = inr (other later)
-
-among-new : (c : ℕ) (areas : List Area) (a : Area) → Among a (new_areas c areas) → Among a areas
-among-new c [] a h = h
-among-new c (b ∷ areas) a h =
-    among-by (is_new c b) a b (new_areas (end_of b) areas) (new_areas c areas) areas (among-new (end_of b) areas a) (among-new c areas a) h
-
-cursor-grows : (c : ℕ) (areas : List Area) → c ≤ end_from c areas
-cursor-grows c [] = omega arith
-cursor-grows c (a ∷ areas) = let h = cursor-grows (after c a) areas in omega arith
-
-among-end : (c : ℕ) (areas : List Area) (a : Area) → Among a areas → end_of a ≤ end_from c areas
-among-end c [] a h = absurd h
-among-end c (b ∷ areas) a (inl is) =
-    let h = cursor-grows (after c b) areas in
-    let e : end_of a ≡ end_of b = ap end_of is in
-    omega arith
-among-end c (b ∷ areas) a (inr later) = among-end (after c b) areas a later
-
-pub news-low : (options : Options) (inputs : List Taken) (l : Positions) → Fits options inputs l → NewsLow (new_areas BLOCK (all_areas (placed_inputs inputs l)))
-news-low options inputs l f a h =
-    let end = among-end BLOCK (all_areas (placed_inputs inputs l)) a (among-new BLOCK (all_areas (placed_inputs inputs l)) a h) in
-    let total = f.total in
-    let small = f.small in
-    omega arith
-
 -- ---- the numbers of a table
 
-split_and : (a b : Bool) → (a && b) ≡ true → (a ≡ true) × (b ≡ true)
-split_and true b h = (refl, h)
-split_and false b h = absurd (cc)
-
-split_or : (a b : Bool) → (a || b) ≡ true → (a ≡ true) ⊎ (b ≡ true)
-split_or true b h = inl refl
-split_or false b h = inr h
+-- areas that start below what a file's length stays below
+abbrev AreLow : List Area → Type 0
+AreLow areas = All (λ x. x.file < FILE_TOP) areas
 
 low-part : (m : Machine) (v : ℕ) → v % granule_of m < 16384
 low-part X64 v = omega arith
@@ -160,7 +106,7 @@ granule-low A64 = omega arith
 
 has_part-top : (g size low a count : ℕ) (p : Load) → IsLoad g size low p → has_part a count p ≡ true → a + count ≤ 2 ^ 47
 has_part-top g size low a count p is h =
-    let both = split_and (nat_le p.vaddr a) (nat_le (a + count) (p.vaddr + p.filesz)) h in
+    let both = and_parts (nat_le p.vaddr a) (nat_le (a + count) (p.vaddr + p.filesz)) h in
     let below : a + count ≤ p.vaddr + p.filesz = grind (arith, nat_tests, both.1) in
     let sizes = is.sizes in
     let top = is.top in
@@ -169,14 +115,14 @@ has_part-top g size low a count p is h =
 in_part-top : (g size low a count : ℕ) (loads : List Load) → AreLoads g size low loads → in_part a count loads ≡ true → a + count ≤ 2 ^ 47
 in_part-top g size low a count [] are h = absurd (cc)
 in_part-top g size low a count (p ∷ loads) are h =
-    elim (split_or (has_part a count p) (in_part a count loads) h) [
+    elim (or_cases (has_part a count p) (in_part a count loads) h) [
       | inl here ↦ has_part-top g size low a count p are.0 here
       | inr later ↦ in_part-top g size (ceil_of (p.vaddr + p.memsz) g) a count loads are.1 later
     ]
 
-place-here : (g size low a : ℕ) (p : Load) (x : Area) → IsLoad g size low p → x.file < 2 ^ 31 → is_backed p a ≡ true → x.file + (a - floor_of p.vaddr g) < 256 ^ 7
+place-here : (g size low a : ℕ) (p : Load) (x : Area) → IsLoad g size low p → x.file < FILE_TOP → is_backed p a ≡ true → x.file + (a - floor_of p.vaddr g) < 256 ^ 7
 place-here g size low a p x is file backed =
-    let below : a < p.vaddr + p.filesz = grind (arith, nat_tests, (split_and (nat_le p.vaddr a) (nat_lt a (p.vaddr + p.filesz)) backed).1) in
+    let below : a < p.vaddr + p.filesz = grind (arith, nat_tests, (and_parts (nat_le p.vaddr a) (nat_lt a (p.vaddr + p.filesz)) backed).1) in
     let sizes = is.sizes in
     let top = is.top in
     omega arith
@@ -189,10 +135,10 @@ place-short : (g size low a : ℕ) (loads : List Load) (areas : List Area) → A
 place-short g size low a [] areas are lows = omega arith
 place-short g size low a (p ∷ loads) [] are lows = omega arith
 place-short g size low a (p ∷ loads) (x ∷ areas) are lows =
-    short-by (is_backed p a) (x.file + (a - floor_of p.vaddr g)) (place_of g loads areas a) (place-here g size low a p x are.0 lows.0)
-    (place-short g size (ceil_of (p.vaddr + p.memsz) g) a loads areas are.1 lows.1)
+    short-by (is_backed p a) (x.file + (a - floor_of p.vaddr g)) (place_of g loads areas a) (place-here g size low a p x are.0 (lows 0 x (omega arith)))
+    (place-short g size (ceil_of (p.vaddr + p.memsz) g) a loads areas are.1 (All-tail (λ (y : Area). y.file < FILE_TOP) x areas lows))
 
-short-load : (m : Machine) (size low : ℕ) (p : Load) (x : Area) → IsLoad (granule_of m) size low p → x.file < 2 ^ 31 → IsShort (load_entry (granule_of m) p x)
+short-load : (m : Machine) (size low : ℕ) (p : Load) (x : Area) → IsLoad (granule_of m) size low p → x.file < FILE_TOP → IsShort (load_entry (granule_of m) p x)
 short-load m size low p x is file =
     let part = low-part m p.vaddr in
     let granule = granule-low m in
@@ -213,7 +159,7 @@ short-loads : (m : Machine) (size low : ℕ) (loads : List Load) (areas : List A
 short-loads m size low [] areas are lows = tt
 short-loads m size low (p ∷ loads) [] are lows = tt
 short-loads m size low (p ∷ loads) (x ∷ areas) are lows =
-    (short-load m size low p x are.0 lows.0, short-loads m size (ceil_of (p.vaddr + p.memsz) (granule_of m)) loads areas are.1 lows.1)
+    (short-load m size low p x are.0 (lows 0 x (omega arith)), short-loads m size (ceil_of (p.vaddr + p.memsz) (granule_of m)) loads areas are.1 (All-tail (λ (y : Area). y.file < FILE_TOP) x areas lows))
 
 short-stack : (stack : Option Entry) → AreShort (stack_entries stack)
 short-stack None = tt
@@ -233,8 +179,8 @@ short-stack (Some p) =
 
 short-note : (g size : ℕ) (loads : List Load) (areas : List Area) (p : Entry) → AreLoads g size 0 loads → AreLow areas → is_note loads p ≡ true → IsShort (note_entry g loads areas p)
 short-note g size loads areas p are lows is =
-    let rest = (split_and (p.kind == 4) (not (p.filesz == 0) && in_part p.vaddr p.filesz loads) is).1 in
-    let part = (split_and (not (p.filesz == 0)) (in_part p.vaddr p.filesz loads) rest).1 in
+    let rest = (and_parts (p.kind == 4) (not (p.filesz == 0) && in_part p.vaddr p.filesz loads) is).1 in
+    let part = (and_parts (not (p.filesz == 0)) (in_part p.vaddr p.filesz loads) rest).1 in
     let top = in_part-top g size 0 p.vaddr p.filesz loads are part in
     record {
       flags = omega arith;
@@ -271,24 +217,23 @@ short-tls g size loads areas (Some p) are lows h =
       tt,
     )
 
-pub short-table : (news : List Area) (e : Taken) (areas : List Area) → Meets e → NewsLow news → ServeAll (granule_of e.machine) news e.loads areas → AreShort (table_of e areas)
+short-table : (e : Taken) (areas : List Area) → Meets e → AreLow areas → AreShort (table_of e areas)
 unfolding table_of
-short-table news e areas meets low s =
+short-table e areas meets lows =
     let g = granule_of e.machine in
-    let lows = low-areas g news e.loads areas low s in
     let notes = map (note_entry g e.loads areas) e.notes in
     let tls = tls_entries g e.loads areas e.tls in
     short-append (load_entries g e.loads areas) (stack_entries e.stack ++ (notes ++ tls)) (short-loads e.machine e.size 0 e.loads areas meets.loads lows)
     (short-append (stack_entries e.stack) (notes ++ tls) (short-stack e.stack)
     (short-append notes tls (short-notes g e.size e.loads areas e.notes meets.loads lows meets.notes) (short-tls g e.size e.loads areas e.tls meets.loads lows meets.tls)))
 
-eighths-tables : (news : List Area) (ps : List PlacedInput) → All Meets (only_inputs ps) → NewsLow news → AreServed news ps → Eighths (tables_text ps)
-eighths-tables news [] meets low served = λ i. refl
-eighths-tables news (p ∷ ps) meets low served =
+eighths-tables : (news : List Area) (ps : List PlacedInput) → All Meets (only_inputs ps) → All IsKnown ps → AreServed news ps → Eighths (tables_text ps)
+eighths-tables news [] meets known served = λ i. refl
+eighths-tables news (p ∷ ps) meets known served =
     let long = length-table_text news p.input p.areas served.0 in
     eighths-append (7 * entry_count p.input) (table_text p.input p.areas) (tables_text ps) (omega arith)
-    (eighths-table (table_of p.input p.areas) (short-table news p.input p.areas (meets 0 p.input (omega arith)) low served.0))
-    (eighths-tables news ps (λ k d low. meets (suc k) d (omega arith)) low served.1)
+    (eighths-table (table_of p.input p.areas) (short-table p.input p.areas (meets 0 p.input (omega arith)) (known 0 p (omega arith)).places))
+    (eighths-tables news ps (λ k d low. meets (suc k) d (omega arith)) (All-tail IsKnown p ps known) served.1)
 
 -- ---- the body
 
@@ -312,4 +257,4 @@ pub body-zeros : (options : Options) (inputs : List Taken) (l : Positions) → A
 unfolding body_of
 body-zeros options inputs l meets fits =
     let ps = placed_inputs inputs l in
-    zeros-by (tables_text ps) (eighths-tables (new_areas BLOCK (all_areas ps)) ps (subst (All Meets) (sym fits.all) meets) (news-low options inputs l fits) fits.areas)
+    zeros-by (tables_text ps) (eighths-tables (new_areas BLOCK (all_areas ps)) ps (subst (All Meets) (sym fits.all) meets) (fits-known options inputs l fits) fits.areas)

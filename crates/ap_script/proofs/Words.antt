@@ -1,25 +1,11 @@
 -- A search for a word, as whether the word stands in a text.
-use Rattle.std.proofs.Common.{◌≡◌, ◌⊎◌, inl, inr, ℕ, zero, suc, ◌+◌, ◌<◌, ◌==◌, ◌&&◌, ◌||◌, Bool, true, false, List, [], ◌∷◌, length, Option, Some, None, refl, sym, ap, ◌∙◌, arith}
+use Rattle.std.proofs.Common.{◌≡◌, inl, inr, ℕ, zero, suc, ◌+◌, ◌<◌, ◌==◌, ◌||◌, true, List, [], ◌∷◌, length, Option, Some, None, refl, sym, ap, ◌∙◌, arith}
 use Rattle.std.specs.Prelude.{slice_index}
+use Rattle.std.proofs.lemmas.Bool.{and_from, and_parts, false_from_ne_true, or_cases, or_right}
 use Rattle.std.proofs.lemmas.Bool.Decides.{nat_tests}
 use Rattle.std.specs.Option.{is_some}
 use Rattle.memchr.specs.Find.{OccursAt, FindsNeedle}
 use Rattle.ap_script.specs.Delimiter.{begins_with, stands_in}
-
-both_true : (a b : Bool) → a ≡ true → b ≡ true → (a && b) ≡ true
-both_true a b p q = rw (p, q) refl
-
-parts_true : (a b : Bool) → (a && b) ≡ true → (a ≡ true) × (b ≡ true)
-parts_true true b h = (refl, h)
-parts_true false b h = absurd (cc)
-
-later_true : (a b : Bool) → b ≡ true → (a || b) ≡ true
-later_true true b h = refl
-later_true false b h = h
-
-some_true : (a b : Bool) → (a || b) ≡ true → (a ≡ true) ⊎ (b ≡ true)
-some_true true b h = inl refl
-some_true false b h = inr h
 
 reads-later : (d : ℕ) (text : List ℕ) (k m : ℕ) → m ≡ suc k → slice_index (d ∷ text) m ≡ slice_index text k
 reads-later d text k m is = ap (slice_index (d ∷ text)) is
@@ -30,7 +16,7 @@ occurs-begins (c ∷ word) [] o = let f = o.fits in absurd (omega arith)
 occurs-begins (c ∷ word) (d ∷ text) o =
     let f = o.fits in
     let same : d ≡ c = o.reads 0 (omega arith) in
-    both_true (c == d) (begins_with word text) (grind (arith, nat_tests))
+    and_from (c == d) (begins_with word text) (grind (arith, nat_tests))
     (occurs-begins word text (record { fits = omega arith; reads = λ j h. sym (reads-later d text (0 + j) (0 + suc j) (omega arith)) ∙ o.reads (suc j) (omega arith) }))
 
 same-reads : (c d : ℕ) (word text : List ℕ) → d ≡ c → ((j : ℕ) → j < length word → slice_index text (0 + j) ≡ slice_index word j)
@@ -42,7 +28,7 @@ begins-occurs : (word text : List ℕ) → begins_with word text ≡ true → Oc
 begins-occurs [] text h = record { fits = omega arith; reads = λ j b. absurd (omega arith) }
 begins-occurs (c ∷ word) [] h = absurd (cc)
 begins-occurs (c ∷ word) (d ∷ text) h =
-    let p = parts_true (c == d) (begins_with word text) h in
+    let p = and_parts (c == d) (begins_with word text) h in
     let front : (c == d) ≡ true = p.0 in
     let same : d ≡ c = grind (arith, nat_tests) in
     let r = begins-occurs word text p.1 in
@@ -57,11 +43,11 @@ occurs-stands word [] k o = let f = o.fits in occurs-begins word [] (record { fi
 occurs-stands word (d ∷ text) zero o = ap (λ b. b || stands_in word text) (occurs-begins word (d ∷ text) o)
 occurs-stands word (d ∷ text) (suc k) o =
     let f = o.fits in
-    later_true (begins_with word (d ∷ text)) (stands_in word text) (occurs-stands word text k (record { fits = omega arith; reads = λ j h. sym (reads-later d text (k + j) (suc k + j) (omega arith)) ∙ o.reads j h }))
+    or_right (begins_with word (d ∷ text)) (stands_in word text) (occurs-stands word text k (record { fits = omega arith; reads = λ j h. sym (reads-later d text (k + j) (suc k + j) (omega arith)) ∙ o.reads j h }))
 
 pub stands-occurs : (word text : List ℕ) → stands_in word text ≡ true → (k : ℕ) × OccursAt text word k
 stands-occurs word [] h = (0, begins-occurs word [] h)
-stands-occurs word (d ∷ text) h = elim (some_true (begins_with word (d ∷ text)) (stands_in word text) h) [
+stands-occurs word (d ∷ text) h = elim (or_cases (begins_with word (d ∷ text)) (stands_in word text) h) [
   | inl here ↦ (0, begins-occurs word (d ∷ text) here)
   | inr later ↦
       (let r = stands-occurs word text later in
@@ -69,15 +55,11 @@ stands-occurs word (d ∷ text) h = elim (some_true (begins_with word (d ∷ tex
       (suc r.0, record { fits = omega arith; reads = λ j b. reads-later d text (r.0 + j) (suc r.0 + j) (omega arith) ∙ r.1.reads j b }))
 ]
 
-not_true : (b : Bool) → (b ≡ true → ⊥) → b ≡ false
-not_true true h = absurd (h refl)
-not_true false h = refl
-
 -- what a search answers
 pub finds-stands : (word text : List ℕ) (r : Option ℕ) → FindsNeedle text word 0 r → is_some r ≡ stands_in word text
 finds-stands word text (Some k) h = sym (occurs-stands word text k h.1)
 finds-stands word text None h =
-    sym (not_true (stands_in word text) (λ stands.
+    sym (false_from_ne_true (stands_in word text) (λ stands.
     let o = stands-occurs word text stands in
     let f = o.1.fits in
     h o.0 (omega arith) (omega arith) o.1))

@@ -1,7 +1,8 @@
 -- The ELF header and the program headers that the linker writes for an input (System V gABI, "ELF Header" and "Program
 -- Header"; `PT_GNU_STACK` as Linux takes it).
-use Rattle.std.specs.Prelude.{ℕ, zero, suc, ◌+◌, ◌-◌, ◌%◌, ◌^◌, ◌==◌, ◌&&◌, min, nat_le, nat_lt, if◌then◌else◌, Bool, List, [], ◌∷◌, ◌++◌, map, Option, Some, None, bit_and}
+use Rattle.std.specs.Prelude.{ℕ, zero, suc, ◌+◌, ◌-◌, ◌%◌, ◌==◌, ◌&&◌, min, nat_le, nat_lt, if◌then◌else◌, Bool, List, [], ◌∷◌, ◌++◌, map, Option, Some, None, bit_and}
 use Rattle.ap_fields.specs.Granules.{floor_of, ceil_of}
+use Rattle.ap_elf.specs.declared.constants.TheConstants.{ET_EXEC, EV_CURRENT, EHDR_SIZE, PHDR_SIZE, PT_LOAD, PT_NOTE, PT_TLS, PT_GNU_STACK, PF_R}
 use Rattle.ap_elf.specs.declared.types.Header.{Header}
 use Rattle.ap_elf.specs.declared.types.Entry.{Entry}
 use Rattle.ap_elf.specs.Written.{header_bytes, table_bytes}
@@ -10,25 +11,26 @@ use Rattle.ap_elf.specs.Machines.{granule_of, number_of}
 use Rattle.ap_check.specs.Inputs.{Taken}
 use Rattle.ap_layout.specs.declared.layout.Area.{Area}
 use Rattle.ap_layout.specs.Positions.{PlacedInput, entry_count}
+use Rattle.ap_script.specs.declared.table.TheConstants.{MOST_STACK, STACK_GRANULE, STACK_ALIGN, ALL_FLAGS}
 
 -- a load: its permissions, addresses and sizes are the input's, and its bytes stand in the area as far from a granule's start
 -- as they do in memory; a load without bytes in the file has the empty area
 abbrev pub load_entry : ℕ → Load → Area → Entry
-load_entry g p x = record { kind = 1; flags = p.perms.0; offset = x.file + p.vaddr % g; vaddr = p.vaddr; paddr = 0; filesz = p.filesz; memsz = p.memsz; align = g }
+load_entry g p x = record { kind = PT_LOAD; flags = p.perms.0; offset = x.file + p.vaddr % g; vaddr = p.vaddr; paddr = 0; filesz = p.filesz; memsz = p.memsz; align = g }
 
 abbrev pub load_entries : ℕ → List Load → List Area → List Entry
 load_entries g [] areas = []
 load_entries g (p ∷ loads) [] = []
 load_entries g (p ∷ loads) (x ∷ areas) = load_entry g p x ∷ load_entries g loads areas
 
--- the stack size of an input: in whole 65536 bytes, 2^30 at most, and 0 where none is asked for
+-- the stack size of an input: in whole granules of stacks, MOST_STACK at most, and 0 where none is asked for
 abbrev pub stack_size : Option Entry → ℕ
 stack_size None = 0
-stack_size (Some p) = min (2 ^ 30) (ceil_of p.memsz 65536)
+stack_size (Some p) = min MOST_STACK (ceil_of p.memsz STACK_GRANULE)
 
 abbrev pub stack_entries : Option Entry → List Entry
 stack_entries None = []
-stack_entries (Some p) = record { kind = 0x6474e551; flags = bit_and p.flags 7; offset = 0; vaddr = 0; paddr = 0; filesz = 0; memsz = stack_size (Some p); align = 16 } ∷ []
+stack_entries (Some p) = record { kind = PT_GNU_STACK; flags = bit_and p.flags ALL_FLAGS; offset = 0; vaddr = 0; paddr = 0; filesz = 0; memsz = stack_size (Some p); align = STACK_ALIGN } ∷ []
 
 -- whether an address is in the file part of a load
 abbrev pub is_backed : Load → ℕ → Bool
@@ -41,11 +43,11 @@ place_of g (p ∷ loads) [] a = 0
 place_of g (p ∷ loads) (x ∷ areas) a = if is_backed p a then x.file + (a - floor_of p.vaddr g) else place_of g loads areas a
 
 abbrev pub note_entry : ℕ → List Load → List Area → Entry → Entry
-note_entry g loads areas p = record { kind = 4; flags = 4; offset = place_of g loads areas p.vaddr; vaddr = p.vaddr; paddr = 0; filesz = p.filesz; memsz = p.filesz; align = if p.align == 8 then 8 else 4 }
+note_entry g loads areas p = record { kind = PT_NOTE; flags = PF_R; offset = place_of g loads areas p.vaddr; vaddr = p.vaddr; paddr = 0; filesz = p.filesz; memsz = p.filesz; align = if p.align == 8 then 8 else 4 }
 
 abbrev pub tls_entries : ℕ → List Load → List Area → Option Entry → List Entry
 tls_entries g loads areas None = []
-tls_entries g loads areas (Some p) = record { kind = 7; flags = 4; offset = if p.filesz == 0 then 0 else place_of g loads areas p.vaddr; vaddr = p.vaddr; paddr = 0; filesz = p.filesz; memsz = p.memsz; align = p.align } ∷ []
+tls_entries g loads areas (Some p) = record { kind = PT_TLS; flags = PF_R; offset = if p.filesz == 0 then 0 else place_of g loads areas p.vaddr; vaddr = p.vaddr; paddr = 0; filesz = p.filesz; memsz = p.memsz; align = p.align } ∷ []
 
 -- the program headers of an input whose loads have these areas
 unfoldable pub table_of : Taken → List Area → List Entry
@@ -60,15 +62,15 @@ table_of e areas =
 unfoldable pub embedded_header : Taken → ℕ → Header
 embedded_header e at = record {
   ident = 127 ∷ 69 ∷ 76 ∷ 70 ∷ 2 ∷ 1 ∷ 1 ∷ 9 ∷ 0 ∷ 0 ∷ 0 ∷ 0 ∷ 0 ∷ 0 ∷ 0 ∷ 0 ∷ [];
-  e_type = 2;
+  e_type = ET_EXEC;
   e_machine = number_of e.machine;
-  e_version = 1;
+  e_version = EV_CURRENT;
   e_entry = e.entry;
   e_phoff = at;
   e_shoff = 0;
   e_flags = 0;
-  e_ehsize = 64;
-  e_phentsize = 56;
+  e_ehsize = EHDR_SIZE;
+  e_phentsize = PHDR_SIZE;
   e_phnum = entry_count e;
   e_shentsize = 0;
   e_shnum = 0;

@@ -2,6 +2,7 @@
 ghost use Rattle.std.specs.Prelude.{◌≡◌, ◌+◌, ◌-◌, ◌≤◌, ◌++◌, length};
 ghost use Rattle.ap_fields.specs.declared.sizes.TheConstants.{WINDOW};
 ghost use Rattle.ap_elf.specs.declared.machine.Machine.TheVariants.{X64, A64};
+ghost use Rattle.ap_octal.specs.declared.types.TheConstants.{MOST_STATEMENT};
 ghost use Rattle.ap_layout.specs.Positions.{Fits, placed_inputs};
 ghost use Rattle.ap_script.specs.Blocks.{closing, spaces, body_of, ending_of};
 ghost use Rattle.ap_script.specs.Delimiter.{delimiter_number};
@@ -14,6 +15,7 @@ use crate::header::machine_header;
 use crate::script::{Script, push_script};
 use crate::text::{Text, push_text};
 use ap_check::{Job, Machine};
+use ap_elf::constants::EHDR_SIZE;
 use ap_fields::WINDOW;
 use ap_layout::Layout;
 use arrayvec::ArrayVec;
@@ -22,7 +24,7 @@ use arrayvec::ArrayVec;
 #[derive(Clone, Copy)]
 pub(crate) struct Statement {
     /// The embedded header that it spells.
-    pub header: Option<[u8; 64]>,
+    pub header: Option<[u8; EHDR_SIZE]>,
     /// Its place in the linked file.
     pub place: usize,
 }
@@ -46,8 +48,8 @@ impl Ending {
         ensures a64 { result.a64.header ≡ header_for A64 (placed_inputs (job_inputs job.now) lay.now) }
         ensures x64_place { result.x64.place ≡ statement_place job.now.options (job_inputs job.now) lay.now X64 }
         ensures a64_place { result.a64.place ≡ statement_place job.now.options (job_inputs job.now) lay.now A64 }
-        ensures x64_room { result.x64.place + 265 ≤ WINDOW }
-        ensures a64_room { result.a64.place + 265 ≤ WINDOW }
+        ensures x64_room { result.x64.place + MOST_STATEMENT ≤ WINDOW }
+        ensures a64_room { result.a64.place + MOST_STATEMENT ≤ WINDOW }
     {
         let at = lay.body_end as usize;
         let x64 = machine_header(job, lay, Machine::X64);

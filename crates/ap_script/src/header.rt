@@ -8,12 +8,13 @@ ghost use Rattle.ap_script.specs.Tables.{embedded_bytes, embedded_at};
 
 use crate::placed::{input_count, placed_input};
 use ap_check::{Input, Job, Machine};
+use ap_elf::constants::{EHDR_SIZE, ET_EXEC, EV_CURRENT, PHDR_SIZE};
 use ap_elf::{Header, header_bytes};
 use ap_layout::{Layout, entry_count};
 
 /// The embedded header of input `i`, counted from 0, where the parts of the linked file have these places: the ELF header of
 /// an executable file whose program header table is the one that stands in the linked file for the input.
-pub fn elf_header(job: &Job<'_>, lay: &Layout, i: usize) -> [u8; 64]
+pub fn elf_header(job: &Job<'_>, lay: &Layout, i: usize) -> [u8; EHDR_SIZE]
     requires input { i < length (job_inputs job.now) }
     requires fits { Fits job.now.options (job_inputs job.now) lay.now }
     ensures { result ≡ embedded_at (placed_inputs (job_inputs job.now) lay.now) i }
@@ -23,7 +24,11 @@ pub fn elf_header(job: &Job<'_>, lay: &Layout, i: usize) -> [u8; 64]
 }
 
 /// The embedded header of the first input for a machine.
-pub(crate) fn machine_header(job: &Job<'_>, lay: &Layout, machine: Machine) -> Option<[u8; 64]>
+pub(crate) fn machine_header(
+    job: &Job<'_>,
+    lay: &Layout,
+    machine: Machine,
+) -> Option<[u8; EHDR_SIZE]>
     requires { Fits job.now.options (job_inputs job.now) lay.now }
     ensures { result ≡ script.header_for machine (placed_inputs (job_inputs job.now) lay.now) }
 {
@@ -42,7 +47,7 @@ fn is_for(input: &Input, machine: Machine) -> bool
     input.machine == machine
 }
 
-fn input_header(input: &Input, at: u32) -> [u8; 64]
+fn input_header(input: &Input, at: u32) -> [u8; EHDR_SIZE]
     ensures { result ≡ embedded_bytes input.now at }
 {
     header_bytes(&embedded_header(input, at))
@@ -54,13 +59,13 @@ fn embedded_header(input: &Input, at: u32) -> Header
 {
     Header {
         ident: *b"\x7fELF\x02\x01\x01\x09\0\0\0\0\0\0\0\0",
-        e_type: 2,
+        e_type: ET_EXEC,
         e_machine: input.machine.number(),
-        e_version: 1,
+        e_version: EV_CURRENT as u32,
         e_entry: input.entry,
         e_phoff: u64::from(at),
-        e_ehsize: 64,
-        e_phentsize: 56,
+        e_ehsize: EHDR_SIZE as u16,
+        e_phentsize: PHDR_SIZE as u16,
         e_phnum: entry_count(input),
         ..Header::default()
     }

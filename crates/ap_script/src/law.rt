@@ -1,14 +1,15 @@
 // What holds of the block of a linked file, by its definitions.
-ghost use Rattle.std.specs.Prelude.{◌≡◌, ◌≢◌, ◌+◌, ◌<◌, ◌≤◌, ◌++◌, ◌↔◌, ℕ, true, List, length, codes, All, Contains, Some, None};
+ghost use Rattle.std.specs.Prelude.{◌≡◌, ◌+◌, ◌<◌, ◌≤◌, ◌++◌, ◌↔◌, ℕ, List, length, codes, All, Contains};
 ghost use Rattle.ap_fields.specs.declared.sizes.TheConstants.{BLOCK, WINDOW};
 ghost use Rattle.ap_fields.specs.Bytes.{Holds};
 ghost use Rattle.ap_octal.specs.Embedded.{Opens, Embeds};
 ghost use Rattle.ap_octal.specs.Statement.{octals_of, statement_of};
-ghost use Rattle.ap_loader.specs.Embedded.{has_magic, taken};
 ghost use Rattle.ap_check.specs.declared.options.Options.{Options};
+ghost use Rattle.ap_elf.specs.declared.constants.TheConstants.{EHDR_SIZE};
 ghost use Rattle.ap_elf.specs.declared.machine.Machine.TheVariants.{X64, A64};
-ghost use Rattle.ap_elf.specs.Machines.{granule_of, number_of};
+ghost use Rattle.ap_elf.specs.Machines.{granule_of};
 ghost use Rattle.ap_check.specs.Inputs.{Taken, Meets};
+ghost use Rattle.ap_layout.specs.declared.sizes.TheConstants.{OPENING};
 ghost use Rattle.ap_layout.specs.declared.layout.Area.{Area};
 ghost use Rattle.ap_layout.specs.Areas.{ServeAll};
 ghost use Rattle.ap_layout.specs.Positions.{Positions, PlacedInput, placed_inputs, Fits, table_length};
@@ -20,13 +21,13 @@ ghost use Rattle.ap_script.specs.Stands.{MachinesDiffer, IsOneOf, HoldsTables, H
 
 /// An embedded header has 64 bytes, and a program header table 56 for each of its entries.
 pub fn headers_have_lengths()
-    ensures header { (e : Taken) (t : ℕ) → length (embedded_bytes e t) ≡ 64 }
+    ensures header { (e : Taken) (t : ℕ) → length (embedded_bytes e t) ≡ EHDR_SIZE }
     ensures table { (news areas : List Area) (e : Taken) → ServeAll (granule_of e.machine) news e.loads areas → length (table_text e areas) ≡ table_length e }
 {}
 
 /// A block has 16384 bytes, and the here-document and the script end in its first half.
 pub fn blocks_have_lengths()
-    ensures body { (options : Options) (inputs : List Taken) (l : Positions) → Fits options inputs l → 86 + length (body_of options inputs l) ≡ l.body_end }
+    ensures body { (options : Options) (inputs : List Taken) (l : Positions) → Fits options inputs l → OPENING + length (body_of options inputs l) ≡ l.body_end }
     ensures text { (options : Options) (inputs : List Taken) (l : Positions) → Fits options inputs l → length (shell_text options inputs l) ≤ WINDOW }
     ensures block { (options : Options) (inputs : List Taken) (l : Positions) → Fits options inputs l → length (block_of options inputs l) ≡ BLOCK }
 {}
@@ -40,8 +41,7 @@ pub fn blocks_are_claimed()
 /// body from 86 on and each program header table at its place.
 pub fn blocks_hold_tables()
     ensures begins { (options : Options) (inputs : List Taken) (l : Positions) (rest : List ℕ) → Holds (block_of options inputs l ++ rest) 0 (codes "jartsr='") }
-    ensures magic { (options : Options) (inputs : List Taken) (l : Positions) (rest : List ℕ) → has_magic (block_of options inputs l ++ rest) ≡ true }
-    ensures body { (options : Options) (inputs : List Taken) (l : Positions) (rest : List ℕ) → Holds (block_of options inputs l ++ rest) 86 (body_of options inputs l) }
+    ensures body { (options : Options) (inputs : List Taken) (l : Positions) (rest : List ℕ) → Holds (block_of options inputs l ++ rest) OPENING (body_of options inputs l) }
     ensures tables { (options : Options) (inputs : List Taken) (l : Positions) (rest : List ℕ) → Fits options inputs l → HoldsTables (block_of options inputs l ++ rest) (placed_inputs inputs l) }
 {}
 
@@ -67,15 +67,6 @@ pub fn statements_stand()
         → IsOneOf p (placed_inputs inputs l)
         → let place = statement_place options inputs l p.input.machine in
         Embeds (block_of options inputs l ++ rest) place (place + 8 + length (octals_of (embedded_bytes p.input p.table))) (embedded_bytes p.input p.table) }
-{}
-
-/// A loader for the machine of an input takes the input's statement (APE specification), whatever stands behind the block. A
-/// loader for a machine that no input is for takes none.
-pub fn statements_are_taken()
-    ensures taken { (options : Options) (inputs : List Taken) (l : Positions) (rest : List ℕ) (p : PlacedInput) → All Meets inputs → MachinesDiffer inputs → Fits options inputs l
-        → IsOneOf p (placed_inputs inputs l) → taken (number_of p.input.machine) (block_of options inputs l ++ rest) ≡ Some (statement_place options inputs l p.input.machine, embedded_bytes p.input p.table) }
-    ensures other { (options : Options) (inputs : List Taken) (l : Positions) (rest : List ℕ) (number : ℕ) → All Meets inputs → Fits options inputs l
-        → All (λ e. number_of e.machine ≢ number) inputs → taken number (block_of options inputs l ++ rest) ≡ None }
 {}
 
 /// The delimiter of a body that is shorter than 8192 bytes has a number below 8192 and stands nowhere in the body, whether a

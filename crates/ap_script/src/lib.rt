@@ -20,7 +20,7 @@ pub use delimiter::choose_delimiter;
 pub use header::elf_header;
 pub use law::{
     blocks_are_claimed, blocks_have_lengths, blocks_hold_tables, bodies_hold_zeros,
-    delimiters_are_free, headers_have_lengths, statements_are_taken, statements_stand,
+    delimiters_are_free, headers_have_lengths, statements_stand,
 };
 pub use shell::write_script;
 pub use tables::write_tables;

@@ -2,14 +2,16 @@
 ghost use Rattle.std.specs.Prelude.{◌≡◌, ◌+◌, ◌≤◌, ◌++◌, length};
 ghost use Rattle.std.specs.Fmt.{decimal};
 ghost use Rattle.ap_fields.specs.declared.sizes.TheConstants.{WINDOW};
+ghost use Rattle.ap_octal.specs.declared.types.TheConstants.{MOST_STATEMENT};
 ghost use Rattle.ap_octal.specs.Statement.{statement_of};
 ghost use Rattle.ap_elf.specs.declared.machine.Machine.TheVariants.{X64, A64};
 ghost use Rattle.ap_script.specs.Script.{script_of, script_start, dd_line, darwin_x64_lines, darwin_lines, system_lines, system_line, chosen_test, or_tests, kernels_of, machine_start, machine_lines, machine_end, script_end};
 
 use crate::text::{Text, push_text};
 use ap_check::{Machine, Systems};
+use ap_elf::constants::EHDR_SIZE;
 use ap_fields::put_decimal;
-use ap_octal::write_statement;
+use ap_octal::{MOST_STATEMENT, write_statement};
 use bitflags::Flags;
 
 const START: &[u8] = b"if command -v ape >/dev/null 2>&1; then\nexec ape \"$0\" \"$@\"\nfi\n\
@@ -31,8 +33,8 @@ const MACHINE_END: &[u8] = b" 1<>\"$t\" || exit 124\nexec \"$t\" \"$@\"\nfi\n";
 pub(crate) struct Script {
     pub systems: Systems,
     /// The embedded header for each machine that an input is for.
-    pub x64: Option<[u8; 64]>,
-    pub a64: Option<[u8; 64]>,
+    pub x64: Option<[u8; EHDR_SIZE]>,
+    pub a64: Option<[u8; EHDR_SIZE]>,
     /// The place of the Mach-O header and its length, in units of eight bytes.
     pub skip: u32,
     pub count: u32,
@@ -182,7 +184,7 @@ fn push_test(out: &mut Text, chosen: bool, behind: bool, test: &[u8])
 }
 
 /// Appends the lines for a machine where there is an input for it, and answers where its statement begins or would begin.
-fn push_machine(out: &mut Text, machine: Machine, header: &Option<[u8; 64]>) -> usize
+fn push_machine(out: &mut Text, machine: Machine, header: &Option<[u8; EHDR_SIZE]>) -> usize
     requires { length out.old.items + 440 ≤ WINDOW }
     ensures items { out.new.items ≡ out.old.items ++ machine_lines machine header.now }
     ensures len { length out.new.items ≤ length out.old.items + 440 }
@@ -219,12 +221,12 @@ fn push_machine_end(out: &mut Text)
 }
 
 /// Appends the canonical statement of a header.
-pub(crate) fn push_statement(out: &mut Text, header: &[u8; 64])
-    requires { length out.old.items + 265 ≤ WINDOW }
+pub(crate) fn push_statement(out: &mut Text, header: &[u8; EHDR_SIZE])
+    requires { length out.old.items + MOST_STATEMENT ≤ WINDOW }
     ensures items { out.new.items ≡ out.old.items ++ statement_of header.now }
-    ensures len { length out.new.items ≤ length out.old.items + 265 }
+    ensures len { length out.new.items ≤ length out.old.items + MOST_STATEMENT }
 {
-    let mut text = [0; 265];
+    let mut text = [0; MOST_STATEMENT];
     let count = write_statement(&mut text, 0, header);
     push_text(out, &text[..count]);
 }

@@ -3,6 +3,7 @@ ghost use Rattle.std.specs.Prelude.{◌≡◌, ◌+◌, ◌≤◌, [], ◌∷◌
 ghost use Rattle.ap_fields.specs.declared.sizes.TheConstants.{WINDOW};
 ghost use Rattle.ap_claims.specs.declared.owner.Owner.TheVariants.{Shell, Ape};
 ghost use Rattle.ap_claims.specs.Lists.{Makes};
+ghost use Rattle.ap_octal.specs.declared.types.TheConstants.{MOST_STATEMENT};
 ghost use Rattle.ap_layout.specs.Positions.{Fits};
 ghost use Rattle.ap_script.specs.Blocks as spec;
 ghost use Rattle.ap_script.specs.Claims.{claim, statement_claims, script_claims};
@@ -35,8 +36,8 @@ pub fn write_script(block: &mut Block, job: &Job<'_>, lay: &Layout) -> Result<()
 
 /// Claims what an APE loader looks for.
 fn write_for_loaders(block: &mut Block, x64: &Statement, a64: &Statement) -> Result<(), Clash>
-    requires x64 { x64.now.place + 265 ≤ WINDOW }
-    requires a64 { a64.now.place + 265 ≤ WINDOW }
+    requires x64 { x64.now.place + MOST_STATEMENT ≤ WINDOW }
+    requires a64 { a64.now.place + MOST_STATEMENT ≤ WINDOW }
     ensures { Makes block.old block.new (claim Ape 0 spec.magic ∷ (statement_claims x64.now.header x64.now.place ++ statement_claims a64.now.header a64.now.place)) result }
 {
     block.claim(Owner::Ape, 0, b"jartsr='")?;
@@ -46,7 +47,7 @@ fn write_for_loaders(block: &mut Block, x64: &Statement, a64: &Statement) -> Res
 
 /// Claims a statement, where there is one.
 fn write_statement(block: &mut Block, statement: &Statement) -> Result<(), Clash>
-    requires { statement.now.place + 265 ≤ WINDOW }
+    requires { statement.now.place + MOST_STATEMENT ≤ WINDOW }
     ensures { Makes block.old block.new (statement_claims statement.now.header statement.now.place) result }
 {
     match &statement.header {

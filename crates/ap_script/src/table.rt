@@ -1,6 +1,8 @@
 // The program header table that the linker writes for an input.
-ghost use Rattle.std.specs.Prelude.{◌≡◌, ◌+◌, ◌≤◌, ◌<◌, ◌^◌, ◌++◌, [], ◌∷◌, Some, length, map, All};
+ghost use Rattle.std.specs.Prelude.{◌≡◌, ◌+◌, ◌≤◌, ◌<◌, ◌++◌, [], ◌∷◌, Some, length, map, All};
+ghost use Rattle.ap_fields.specs.declared.sizes.TheConstants.{MOST_LOADS};
 ghost use Rattle.ap_elf.specs.Machines.{granule_of};
+ghost use Rattle.ap_layout.specs.declared.sizes.TheConstants.{MOST_ENTRIES, FILE_TOP};
 ghost use Rattle.ap_script.specs.Tables as spec;
 ghost use Rattle.ap_script.specs.Tables.{load_entries, stack_entries, tls_entries, table_of};
 ghost use Rattle.ap_script.specs.Places.{Placed};
@@ -8,16 +10,21 @@ ghost use Rattle.ap_script.specs.Places.{Placed};
 use crate::place::place_of;
 use ap_check::{Input, Load};
 use ap_elf::Entry;
-use ap_fields::{MOST_LOADS, ceil_to};
-use ap_layout::Area;
+use ap_elf::constants::{PF_R, PF_W, PF_X, PT_GNU_STACK, PT_LOAD, PT_NOTE, PT_TLS};
+use ap_fields::ceil_to;
+use ap_layout::{Area, MOST_ENTRIES};
 use arrayvec::ArrayVec;
 use bitflags::Flags;
 
-/// The most program headers of an input: its loads', its stack's, its five notes' and its thread-local storage's.
-const MOST_ENTRIES: usize = MOST_LOADS + 7;
-
 /// The most bytes of a stack that is asked for.
 const MOST_STACK: u64 = 1 << 30;
+/// What a stack's size is a multiple of.
+const STACK_GRANULE: u64 = 1 << 16;
+/// What a stack's address is a multiple of.
+const STACK_ALIGN: u64 = 16;
+
+/// All flags that the memory of a program may have.
+const ALL_FLAGS: u32 = PF_R | PF_W | PF_X;
 
 pub(crate) type Table = ArrayVec<Entry, MOST_ENTRIES>;
 
@@ -25,7 +32,7 @@ pub(crate) type Table = ArrayVec<Entry, MOST_ENTRIES>;
 #[tactic(auto, unfolding(crate::specs::Tables::table_of))]
 pub(crate) fn table(input: &Input, areas: &[Area]) -> Table
     requires same { length areas.now ≡ length input.now.loads }
-    requires places { All (λ x. x.file < 2 ^ 31) areas.now }
+    requires places { All (λ x. x.file < FILE_TOP) areas.now }
     ensures { result.items ≡ table_of input.now areas.now }
 {
     let granule = input.machine.granule();
@@ -40,7 +47,7 @@ pub(crate) fn table(input: &Input, areas: &[Area]) -> Table
 fn push_loads(table: &mut Table, granule: u64, loads: &[Load], areas: &[Area])
     requires placed { Placed granule loads.now areas.now }
     requires empty { table.old.items ≡ [] }
-    requires room { length loads.now ≤ 24 }
+    requires room { length loads.now ≤ MOST_LOADS }
     ensures items { table.new.items ≡ load_entries granule loads.now areas.now }
     ensures len { length table.new.items ≡ length loads.now }
 {
@@ -52,11 +59,11 @@ fn push_loads(table: &mut Table, granule: u64, loads: &[Load], areas: &[Area])
 fn load_entry(granule: u64, p: &Load, area: &Area) -> Entry
     requires some { 0 < granule }
     requires small { granule ≤ 16384 }
-    requires place { area.now.file < 2 ^ 31 }
+    requires place { area.now.file < FILE_TOP }
     ensures { result ≡ spec.load_entry granule p.now area.now }
 {
     Entry {
-        kind: 1,
+        kind: PT_LOAD,
         flags: u32::from(p.perms.bits()),
         offset: area.file + p.vaddr % granule,
         vaddr: p.vaddr,
@@ -68,31 +75,31 @@ fn load_entry(granule: u64, p: &Load, area: &Area) -> Entry
 }
 
 fn push_stack(table: &mut Table, stack: &Option<Entry>)
-    requires { length table.old.items ≤ 24 }
+    requires { length table.old.items ≤ MOST_LOADS }
     ensures items { table.new.items ≡ table.old.items ++ stack_entries stack.now }
     ensures len { length table.new.items ≤ length table.old.items + 1 }
 {
     if let Some(p) = stack {
         table.push(Entry {
-            kind: 0x6474e551,
-            flags: p.flags & 7,
+            kind: PT_GNU_STACK,
+            flags: p.flags & ALL_FLAGS,
             memsz: stack_size(p),
-            align: 16,
+            align: STACK_ALIGN,
             ..Entry::default()
         });
     }
 }
 
-/// The size of a stack: in whole 65536 bytes, and 2^30 at most.
+// The size of a stack: in whole granules of stacks.
 fn stack_size(p: &Entry) -> u64
     ensures { result ≡ spec.stack_size (Some p.now) }
 {
-    ceil_to(p.memsz.min(MOST_STACK), 65536)
+    ceil_to(p.memsz.min(MOST_STACK), STACK_GRANULE)
 }
 
 fn push_notes(table: &mut Table, granule: u64, loads: &[Load], areas: &[Area], notes: &[Entry])
     requires placed { Placed granule loads.now areas.now }
-    requires room { length table.old.items + length notes.now ≤ 30 }
+    requires room { length table.old.items + length notes.now < MOST_ENTRIES }
     ensures items { table.new.items ≡ table.old.items ++ map (spec.note_entry granule loads.now areas.now) notes.now }
     ensures len { length table.new.items ≡ length table.old.items + length notes.now }
 {
@@ -106,8 +113,8 @@ fn note_entry(granule: u64, loads: &[Load], areas: &[Area], p: &Entry) -> Entry
     ensures { result ≡ spec.note_entry granule loads.now areas.now p.now }
 {
     Entry {
-        kind: 4,
-        flags: 4,
+        kind: PT_NOTE,
+        flags: PF_R,
         offset: place_of(granule, loads, areas, p.vaddr),
         vaddr: p.vaddr,
         paddr: 0,
@@ -119,7 +126,7 @@ fn note_entry(granule: u64, loads: &[Load], areas: &[Area], p: &Entry) -> Entry
 
 fn push_tls(table: &mut Table, granule: u64, loads: &[Load], areas: &[Area], tls: &Option<Entry>)
     requires placed { Placed granule loads.now areas.now }
-    requires room { length table.old.items ≤ 30 }
+    requires room { length table.old.items < MOST_ENTRIES }
     ensures items { table.new.items ≡ table.old.items ++ tls_entries granule loads.now areas.now tls.now }
 {
     if let Some(p) = tls {
@@ -137,8 +144,8 @@ fn tls_entry(granule: u64, loads: &[Load], areas: &[Area], p: &Entry) -> Entry
         place_of(granule, loads, areas, p.vaddr)
     };
     Entry {
-        kind: 7,
-        flags: 4,
+        kind: PT_TLS,
+        flags: PF_R,
         offset,
         vaddr: p.vaddr,
         paddr: 0,

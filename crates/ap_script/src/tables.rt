@@ -1,8 +1,9 @@
 // The program header tables, claimed.
-ghost use Rattle.std.specs.Prelude.{◌≡◌, ◌+◌, ◌≤◌, ◌<◌, ◌^◌, [], ◌∷◌, length, All};
+ghost use Rattle.std.specs.Prelude.{◌≡◌, ◌+◌, ◌≤◌, ◌<◌, [], ◌∷◌, length, All};
 ghost use Rattle.ap_fields.specs.declared.sizes.TheConstants.{WINDOW};
 ghost use Rattle.ap_claims.specs.declared.owner.Owner.TheVariants.{Elf};
 ghost use Rattle.ap_claims.specs.Lists.{Makes};
+ghost use Rattle.ap_layout.specs.declared.sizes.TheConstants.{MOST_TABLE, FILE_TOP};
 ghost use Rattle.ap_layout.specs.Positions.{Fits, placed_inputs};
 ghost use Rattle.ap_script.specs.Claims.{claim, table_claims};
 ghost use Rattle.ap_script.specs.Jobs.{job_inputs};
@@ -32,9 +33,9 @@ pub fn write_tables(block: &mut Block, job: &Job<'_>, lay: &Layout) -> Result<()
 
 /// Claims the table of an input whose loads have these areas.
 fn write_table(block: &mut Block, input: &Input, areas: &[Area], at: u32) -> Result<(), Clash>
-    requires place { at + 1736 ≤ WINDOW }
+    requires place { at + MOST_TABLE ≤ WINDOW }
     requires same { length areas.now ≡ length input.now.loads }
-    requires places { All (λ x. x.file < 2 ^ 31) areas.now }
+    requires places { All (λ x. x.file < FILE_TOP) areas.now }
     ensures { Makes block.old block.new (claim Elf at (table_text input.now areas.now) ∷ []) result }
 {
     let mut text = ArrayVec::new();

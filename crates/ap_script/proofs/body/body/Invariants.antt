@@ -1,5 +1,6 @@
 use Rattle.std.proofs.Common.{◌≡◌, ◌+◌, ◌*◌, ◌≤◌, ◌++◌, length, drop}
 use Rattle.ap_fields.specs.Bytes.{zeros}
+use Rattle.ap_layout.specs.declared.sizes.TheConstants.{MOST_TABLE}
 use Rattle.ap_layout.specs.Positions.{placed_inputs}
 use Rattle.ap_script.specs.Blocks.{tables_text}
 use Rattle.ap_script.specs.Jobs.{job_inputs}
@@ -11,5 +12,5 @@ invariant-loop-i l =
     let ps = placed_inputs (job_inputs l.job) l.lay in
     record {
       items : l.body.items ++ tables_text (drop l.i ps) ≡ zeros 10 ++ tables_text ps;
-      room : length l.body.items ≤ 10 + 1736 * l.i;
+      room : length l.body.items ≤ 10 + MOST_TABLE * l.i;
     }

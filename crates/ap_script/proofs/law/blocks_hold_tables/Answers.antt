@@ -1,11 +1,8 @@
-use Rattle.ap_script.proofs.BlockParts.{block-begins, block-magic, block-body, block-tables}
+use Rattle.ap_script.proofs.BlockParts.{block-begins, block-body, block-tables}
 use Rattle.ap_script.proofs.law.blocks_hold_tables.Goals as goal
 
 pub returns-clause-begins : goal.returns-clause-begins
 returns-clause-begins c = block-begins
-
-pub returns-clause-magic : goal.returns-clause-magic
-returns-clause-magic c = block-magic
 
 pub returns-clause-body : goal.returns-clause-body
 returns-clause-body c = block-body

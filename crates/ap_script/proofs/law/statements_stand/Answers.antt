@@ -4,7 +4,7 @@ use Rattle.ap_script.specs.Blocks.{block_of}
 use Rattle.ap_script.specs.Stands.{statement_place}
 use Rattle.ap_script.proofs.Openings.{parts-holds}
 use Rattle.ap_script.proofs.StatementPlaces.{opens-only, parts-block, place-within}
-use Rattle.ap_script.proofs.TakenStatements.{count-places, places-order, embeds-block, header_for-input}
+use Rattle.ap_script.proofs.InputStatements.{count-places, places-order, embeds-block, header_for-input}
 use Rattle.ap_script.proofs.law.statements_stand.Goals as goal
 
 pub returns-clause-only : goal.returns-clause-only

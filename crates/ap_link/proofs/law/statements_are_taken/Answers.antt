@@ -1,6 +1,7 @@
 use Rattle.ap_script.specs.Tables.{embedded_bytes}
-use Rattle.ap_script.proofs.TakenStatements.{taken-block, taken-other, header_for-input}
-use Rattle.ap_script.proofs.law.statements_are_taken.Goals as goal
+use Rattle.ap_script.proofs.InputStatements.{header_for-input}
+use Rattle.ap_link.proofs.TakenStatements.{taken-block, taken-other}
+use Rattle.ap_link.proofs.law.statements_are_taken.Goals as goal
 
 pub returns-clause-taken : goal.returns-clause-taken
 returns-clause-taken c = λ options inputs l rest p meets differ fits has.

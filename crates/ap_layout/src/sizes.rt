@@ -1,0 +1,34 @@
+// How large the parts of a linked file may be.
+use ap_elf::constants::PHDR_SIZE;
+use ap_fields::MOST_LOADS;
+
+/// The most program headers of an input: its loads', its stack's, its five notes' and its thread-local storage's.
+pub const MOST_ENTRIES: usize = MOST_LOADS + 7;
+
+/// The most bytes of an input's program header table.
+pub const MOST_TABLE: u32 = (PHDR_SIZE * MOST_ENTRIES) as u32;
+
+/// The bytes of the here-document's opening.
+pub const OPENING: u32 = 86;
+
+/// Where the first program header table stands: behind the here-document's opening and ten zeros.
+pub const TABLES: u32 = OPENING + 10;
+
+/// Where the here-document's body ends at the latest: behind the tables of two inputs.
+pub const MOST_BODY: u32 = TABLES + 2 * MOST_TABLE;
+
+/// The largest granule of a machine.
+pub const MOST_GRANULE: u64 = 1 << 14;
+
+/// The most bytes of a file that the areas of a load take beside its own: up to the area's start, in front of its bytes and
+/// behind them.
+pub const MOST_BESIDE: u64 = 3 * MOST_GRANULE;
+
+/// The most bytes that the loads of an input may have in its file.
+pub const MOST_BYTES: u64 = 1 << 28;
+
+/// The most bytes of a file that the areas of an input take.
+pub const MOST_AREAS: u64 = MOST_BYTES + MOST_BESIDE * MOST_LOADS as u64;
+
+/// What the length of a linked file stays below.
+pub const FILE_TOP: u64 = 1 << 31;
