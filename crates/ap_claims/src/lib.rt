@@ -2,12 +2,12 @@
 //! want the same value, and what can't be had is told.
 #![tactic(auto)]
 
-mod block;
-mod elf_view;
-mod laws;
-mod mach_view;
-mod owner;
-mod pe_view;
+mod block; // the block, and claims of its bytes
+mod owner; // who claims them
+mod elf_view; // the block for the owner of the program header tables
+mod pe_view; // the same for the owner of the PE headers
+mod mach_view; // the same for the owner of the Mach-O header
+mod laws; // what claims come to
 
 pub use block::{Block, Clash};
 pub use elf_view::ElfView;

@@ -31,7 +31,8 @@ impl<'a> PeView<'a> {
         requires { self.old.at + at + 2 ≤ BLOCK }
         ensures same_reference { self.new.block.ghost_name ≡ self.old.block.ghost_name }
         ensures start { self.new.at ≡ self.old.at }
-        ensures claim { Claims Pe self.old.block.now self.new.block.now (self.old.at + at) (bytes_of 2 v) result }
+        ensures claim { Claims Pe self.old.block.now self.new.block.now (self.old.at + at)
+            (bytes_of 2 v) result }
     {
         self.put_bytes(at, &v.to_le_bytes())
     }
@@ -42,7 +43,8 @@ impl<'a> PeView<'a> {
         requires { self.old.at + at + 4 ≤ BLOCK }
         ensures same_reference { self.new.block.ghost_name ≡ self.old.block.ghost_name }
         ensures start { self.new.at ≡ self.old.at }
-        ensures claim { Claims Pe self.old.block.now self.new.block.now (self.old.at + at) (bytes_of 4 v) result }
+        ensures claim { Claims Pe self.old.block.now self.new.block.now (self.old.at + at)
+            (bytes_of 4 v) result }
     {
         self.put_bytes(at, &v.to_le_bytes())
     }
@@ -53,7 +55,8 @@ impl<'a> PeView<'a> {
         requires { self.old.at + at + 8 ≤ BLOCK }
         ensures same_reference { self.new.block.ghost_name ≡ self.old.block.ghost_name }
         ensures start { self.new.at ≡ self.old.at }
-        ensures claim { Claims Pe self.old.block.now self.new.block.now (self.old.at + at) (bytes_of 8 v) result }
+        ensures claim { Claims Pe self.old.block.now self.new.block.now (self.old.at + at)
+            (bytes_of 8 v) result }
     {
         self.put_bytes(at, &v.to_le_bytes())
     }
@@ -63,7 +66,8 @@ impl<'a> PeView<'a> {
         requires { self.old.at + at + length bytes.now ≤ BLOCK }
         ensures same_reference { self.new.block.ghost_name ≡ self.old.block.ghost_name }
         ensures start { self.new.at ≡ self.old.at }
-        ensures claim { Claims Pe self.old.block.now self.new.block.now (self.old.at + at) bytes.now result }
+        ensures claim { Claims Pe self.old.block.now self.new.block.now (self.old.at + at) bytes.now
+            result }
     {
         self.block.claim(Owner::Pe, self.at + at, bytes)
     }
