@@ -2,16 +2,12 @@
 //! want the same value, and what can't be had is told.
 #![tactic(auto)]
 
-mod block;
-mod elf_view;
-mod laws;
-mod mach_view;
-mod owner;
-mod pe_view;
+mod block; // the block, and claims of its bytes
+mod owner; // who claims them
+mod view; // the block from a place on, for one owner
+mod laws; // what claims come to
 
 pub use block::{Block, Clash};
-pub use elf_view::ElfView;
 pub use laws::{claims_are_exact, claims_fill_a_block, claims_have_one_file, writers_join};
-pub use mach_view::MachView;
 pub use owner::{Owner, Owners};
-pub use pe_view::PeView;
+pub use view::{Claimant, ElfView, MachView, OfElf, OfMach, OfPe, PeView, View};

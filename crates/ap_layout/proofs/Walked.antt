@@ -1,11 +1,11 @@
 -- How far a walk over an input's loads has come.
-use Rattle.std.proofs.Common.{◌≡◌, ℕ, ◌+◌, ◌*◌, ◌≤◌, max, List, [], ◌∷◌, ◌++◌, length, refl, sym, ap, ◌∙◌, subst, arith, append_assoc, append-nil, Option}
+use Rattle.std.proofs.Common.{◌≡◌, ℕ, ◌+◌, ◌*◌, ◌≤◌, List, [], ◌∷◌, ◌++◌, length, refl, sym, ◌∙◌, subst, arith, append-nil, Option}
 use Rattle.std.proofs.lemmas.List.Sums.{sum_by-cons}
 use Rattle.ap_check.specs.declared.load.Load.{Load}
 use Rattle.ap_check.specs.Inputs.{bytes_of_loads}
 use Rattle.ap_layout.specs.declared.layout.Area.{Area}
 use Rattle.ap_layout.specs.declared.sizes.TheConstants.{MOST_BESIDE}
-use Rattle.ap_layout.specs.Areas.{end_of, area_of, after, areas_of, end_from}
+use Rattle.ap_layout.specs.Areas.{areas_of, end_from}
 
 abbrev pub no_load : Load
 no_load = record { offset = 0; vaddr = 0; filesz = 0; memsz = 0; perms = record { 0 = 0 } }
@@ -27,26 +27,6 @@ pub record Walked (shares : ℕ → Option Area) (g from : ℕ) (all : List Load
   pub areas : done ++ areas_of shares i g rest c ≡ areas_of shares 0 g all from
   pub cursor : end_from c (areas_of shares i g rest c) ≡ end_from from (areas_of shares 0 g all from)
   pub room : c + room_of rest ≤ from + room_of all
-
-pub walked-start : (shares : ℕ → Option Area) (g from : ℕ) (all : List Load) → Walked shares g from all 0 [] all from
-walked-start shares g from all = record { areas = refl; cursor = refl; room = omega arith }
-
--- one load further
-pub walked-step : (shares : ℕ → Option Area) (g from : ℕ) (all : List Load) (i : ℕ) (done now : List Area) (p : Load) (front rest : List Load) (c next : ℕ) (a : Area)
-    → front ≡ p ∷ rest → a ≡ area_of (shares i) g p c → end_of a ≤ c + p.filesz + MOST_BESIDE → now ≡ done ++ a ∷ [] → next ≡ max c (end_of a)
-    → Walked shares g from all i done front c → Walked shares g from all (i + 1) now rest next
-walked-step shares g from all i done now p front rest c next a split here far push up h =
-    let b : Area = area_of (shares i) g p c in
-    let split' : Walked shares g from all i done (p ∷ rest) c = subst (λ (xs : List Load). Walked shares g from all i done xs c) split h in
-    let up' : next ≡ after c b = up ∙ ap (λ (x : Area). max c (end_of x)) here in
-    let push' : now ≡ done ++ b ∷ [] = push ∙ ap (λ (x : Area). done ++ x ∷ []) here in
-    let far' : end_of b ≤ c + p.filesz + MOST_BESIDE = subst (λ (x : Area). end_of x ≤ c + p.filesz + MOST_BESIDE) here far in
-    let made : Walked shares g from all (i + 1) (done ++ b ∷ []) rest (after c b) = record {
-      areas = append_assoc done (b ∷ []) (areas_of shares (i + 1) g rest (after c b)) ∙ split'.areas;
-      cursor = split'.cursor;
-      room = (let r = split'.room in omega arith);
-    } in
-    rw (push', up') made
 
 -- the end
 pub walked-end : (shares : ℕ → Option Area) (g from : ℕ) (all : List Load) (i : ℕ) (done : List Area) (rest : List Load) (c : ℕ) → rest ≡ [] → Walked shares g from all i done rest c

@@ -48,7 +48,7 @@ fn areas_of_loads(loads: &[Load], granule: u64, from: u64) -> Placed
     Placed { areas, end }
 }
 
-/// The area of a load where the cursor stands at `cursor`.
+// The area of a load where the cursor stands at `cursor`.
 #[tactic(auto, using(crate::proofs::Rounded::area_steps), unfolding(crate::specs::Areas::content_length))]
 fn area(load: &Load, granule: u64, cursor: u64) -> Area
     requires granule { IsGranule granule }

@@ -16,8 +16,10 @@ use arrayvec::ArrayVec;
 /// its input's machine, in the order of the inputs and of their loads behind the block; and the program header tables,
 /// one behind the other.
 pub fn place(job: &Job<'_>) -> Layout
-    ensures positions { result ≡ positions_of job.now.options job.now.first.now (option_copied job.now.second) }
-    ensures fits { Fits job.now.options (inputs_of job.now.first.now (option_copied job.now.second)) result }
+    ensures positions { result
+        ≡ positions_of job.now.options job.now.first.now (option_copied job.now.second) }
+    ensures fits { Fits job.now.options (inputs_of job.now.first.now (option_copied job.now.second))
+        result }
     ensures apart { AllApart (joined result.areas) }
     ensures ascend { Ascend BLOCK (first_areas result.areas) }
 {

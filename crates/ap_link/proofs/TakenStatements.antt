@@ -4,7 +4,7 @@ use Rattle.std.specs.Prelude.{All, codes}
 use Rattle.std.specs.Option.{option_and_then}
 use Rattle.memchr.specs.Find.{occurs_at}
 use Rattle.memchr.proofs.lemmas.MatchLemmas.{OccursAt-true}
-use Rattle.std.proofs.lemmas.Bool.{cases_lt, cases_Bool}
+use Rattle.std.proofs.lemmas.Bool.{cases_Bool, cases_eq}
 use Rattle.std.proofs.lemmas.Bool.Decides.{nat_tests}
 use Rattle.std.proofs.lemmas.List.{take_all}
 use Rattle.ap_fields.specs.declared.sizes.TheConstants.{BLOCK, WINDOW}
@@ -77,7 +77,7 @@ before-a64 options inputs l rest j meets fits low =
             | inl (h, some, at) ↦ none h some
             | inr (h, some, at) ↦ omega arith
           ])
-      | inl (first, is) ↦ elim (same_or j (statement_place options inputs l X64)) [
+      | inl (first, is) ↦ elim (cases_eq j (statement_place options inputs l X64)) [
         | inl here ↦ ap (header_at (number_of A64) (take WINDOW file)) here ∙ header-there options inputs l rest (number_of A64) X64 first fits is
         | inr other ↦ header_at-closed (number_of A64) file j (λ o.
             elim (contained (header_for X64 (placed_inputs inputs l)) (header_for A64 (placed_inputs inputs l)) (machines_start options inputs l) j (opens-places options inputs l rest j meets fits o)) [
@@ -90,13 +90,6 @@ before-a64 options inputs l rest j meets fits low =
     which : (o : Option (List ℕ)) → ((h : List ℕ) × (o ≡ Some h)) ⊎ ((h : List ℕ) → o ≢ Some h)
     which None = inr (λ h e. cc)
     which (Some h) = inl (h, refl)
-
-    same_or : (a b : ℕ) → (a ≡ b) ⊎ (a ≢ b)
-    same_or a b =
-        elim (cases_lt a b) [
-          | inl low ↦ inr (λ e. omega arith)
-          | inr high ↦ elim (cases_lt b a) [ inl above ↦ inr (λ e. omega arith) | inr equal ↦ inl (omega arith) ]
-        ]
 
 pub taken-block : (options : Options) (inputs : List Taken) (l : Positions) (rest : List ℕ) (m : Machine) (header : List ℕ) → All Meets inputs → Fits options inputs l → header_for m (placed_inputs inputs l) ≡ Some header
     → taken (number_of m) (block_of options inputs l ++ rest) ≡ Some (statement_place options inputs l m, header)

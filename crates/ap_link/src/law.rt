@@ -11,14 +11,20 @@ ghost use Rattle.ap_script.specs.Stands.{MachinesDiffer, IsOneOf, statement_plac
 
 /// A file that begins with a block has the magic of an Actually Portable Executable (APE specification).
 pub fn blocks_have_magic()
-    ensures { (options : Options) (inputs : List Taken) (l : Positions) (rest : List ℕ) → has_magic (block_of options inputs l ++ rest) ≡ true }
+    ensures { (options : Options) (inputs : List Taken) (l : Positions) (rest : List ℕ)
+        → has_magic (block_of options inputs l ++ rest) ≡ true }
 {}
 
 /// A loader for the machine of an input takes the input's statement (APE specification), whatever stands behind the block. A
 /// loader for a machine that no input is for takes none.
 pub fn statements_are_taken()
-    ensures taken { (options : Options) (inputs : List Taken) (l : Positions) (rest : List ℕ) (p : PlacedInput) → All Meets inputs → MachinesDiffer inputs → Fits options inputs l
-        → IsOneOf p (placed_inputs inputs l) → taken (number_of p.input.machine) (block_of options inputs l ++ rest) ≡ Some (statement_place options inputs l p.input.machine, embedded_bytes p.input p.table) }
-    ensures other { (options : Options) (inputs : List Taken) (l : Positions) (rest : List ℕ) (number : ℕ) → All Meets inputs → Fits options inputs l
-        → All (λ e. number_of e.machine ≢ number) inputs → taken number (block_of options inputs l ++ rest) ≡ None }
+    ensures taken { (options : Options) (inputs : List Taken) (l : Positions) (rest : List ℕ)
+        (p : PlacedInput) → All Meets inputs → MachinesDiffer inputs → Fits options inputs l
+        → IsOneOf p (placed_inputs inputs l)
+        → taken (number_of p.input.machine) (block_of options inputs l ++ rest)
+        ≡ Some (statement_place options inputs l p.input.machine, embedded_bytes p.input p.table) }
+    ensures other { (options : Options) (inputs : List Taken) (l : Positions) (rest : List ℕ)
+        (number : ℕ) → All Meets inputs → Fits options inputs l
+        → All (λ e. number_of e.machine ≢ number) inputs
+        → taken number (block_of options inputs l ++ rest) ≡ None }
 {}

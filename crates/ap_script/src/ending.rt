@@ -41,13 +41,18 @@ impl Ending {
     /// The ending behind the body, whose delimiter has this number.
     pub(crate) fn new(job: &Job<'_>, lay: &Layout, number: u32) -> Ending
         requires fits { Fits job.now.options (job_inputs job.now) lay.now }
-        requires number { number ≡ delimiter_number (body_of job.now.options (job_inputs job.now) lay.now) }
+        requires number { number
+            ≡ delimiter_number (body_of job.now.options (job_inputs job.now) lay.now) }
         ensures text { result.text.items ≡ ending_of job.now.options (job_inputs job.now) lay.now }
         ensures len { lay.now.body_end + length result.text.items ≡ WINDOW }
-        ensures x64 { result.x64.header ≡ header_for X64 (placed_inputs (job_inputs job.now) lay.now) }
-        ensures a64 { result.a64.header ≡ header_for A64 (placed_inputs (job_inputs job.now) lay.now) }
-        ensures x64_place { result.x64.place ≡ statement_place job.now.options (job_inputs job.now) lay.now X64 }
-        ensures a64_place { result.a64.place ≡ statement_place job.now.options (job_inputs job.now) lay.now A64 }
+        ensures x64 { result.x64.header
+            ≡ header_for X64 (placed_inputs (job_inputs job.now) lay.now) }
+        ensures a64 { result.a64.header
+            ≡ header_for A64 (placed_inputs (job_inputs job.now) lay.now) }
+        ensures x64_place { result.x64.place
+            ≡ statement_place job.now.options (job_inputs job.now) lay.now X64 }
+        ensures a64_place { result.a64.place
+            ≡ statement_place job.now.options (job_inputs job.now) lay.now A64 }
         ensures x64_room { result.x64.place + MOST_STATEMENT ≤ WINDOW }
         ensures a64_room { result.a64.place + MOST_STATEMENT ≤ WINDOW }
     {
@@ -79,7 +84,7 @@ impl Ending {
     }
 }
 
-/// Appends the line that ends the here-document, behind the newline that ends its body.
+// Appends the line that ends the here-document, behind the newline that ends its body.
 #[tactic(auto, unfolding(crate::specs::Blocks::closing))]
 fn push_closing(text: &mut Text, number: u32)
     requires { length text.old.items + 17 ≤ WINDOW }
@@ -91,7 +96,7 @@ fn push_closing(text: &mut Text, number: u32)
     push_text(text, b"\n");
 }
 
-/// Appends spaces up to a length.
+// Appends spaces up to a length.
 #[tactic(auto, unfolding(crate::specs::Blocks::spaces))]
 fn push_spaces(text: &mut Text, len: usize)
     requires short { length text.old.items ≤ len }

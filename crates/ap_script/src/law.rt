@@ -22,14 +22,19 @@ ghost use Rattle.ap_script.specs.Stands.{MachinesDiffer, IsOneOf, HoldsTables, H
 /// An embedded header has 64 bytes, and a program header table 56 for each of its entries.
 pub fn headers_have_lengths()
     ensures header { (e : Taken) (t : ℕ) → length (embedded_bytes e t) ≡ EHDR_SIZE }
-    ensures table { (news areas : List Area) (e : Taken) → ServeAll (granule_of e.machine) news e.loads areas → length (table_text e areas) ≡ table_length e }
+    ensures table { (news areas : List Area) (e : Taken)
+        → ServeAll (granule_of e.machine) news e.loads areas
+        → length (table_text e areas) ≡ table_length e }
 {}
 
 /// A block has 16384 bytes, and the here-document and the script end in its first half.
 pub fn blocks_have_lengths()
-    ensures body { (options : Options) (inputs : List Taken) (l : Positions) → Fits options inputs l → OPENING + length (body_of options inputs l) ≡ l.body_end }
-    ensures text { (options : Options) (inputs : List Taken) (l : Positions) → Fits options inputs l → length (shell_text options inputs l) ≤ WINDOW }
-    ensures block { (options : Options) (inputs : List Taken) (l : Positions) → Fits options inputs l → length (block_of options inputs l) ≡ BLOCK }
+    ensures body { (options : Options) (inputs : List Taken) (l : Positions) → Fits options inputs l
+        → OPENING + length (body_of options inputs l) ≡ l.body_end }
+    ensures text { (options : Options) (inputs : List Taken) (l : Positions) → Fits options inputs l
+        → length (shell_text options inputs l) ≤ WINDOW }
+    ensures block { (options : Options) (inputs : List Taken) (l : Positions)
+        → Fits options inputs l → length (block_of options inputs l) ≡ BLOCK }
 {}
 
 /// The block is the file of its claims: each claim's bytes stand at its place, and 0 where no claim is.
@@ -40,33 +45,52 @@ pub fn blocks_are_claimed()
 /// A file that begins with a block begins as an Actually Portable Executable (APE specification), and has the here-document's
 /// body from 86 on and each program header table at its place.
 pub fn blocks_hold_tables()
-    ensures begins { (options : Options) (inputs : List Taken) (l : Positions) (rest : List ℕ) → Holds (block_of options inputs l ++ rest) 0 (codes "jartsr='") }
-    ensures body { (options : Options) (inputs : List Taken) (l : Positions) (rest : List ℕ) → Holds (block_of options inputs l ++ rest) OPENING (body_of options inputs l) }
-    ensures tables { (options : Options) (inputs : List Taken) (l : Positions) (rest : List ℕ) → Fits options inputs l → HoldsTables (block_of options inputs l ++ rest) (placed_inputs inputs l) }
+    ensures begins { (options : Options) (inputs : List Taken) (l : Positions) (rest : List ℕ)
+        → Holds (block_of options inputs l ++ rest) 0 (codes "jartsr='") }
+    ensures body { (options : Options) (inputs : List Taken) (l : Positions) (rest : List ℕ)
+        → Holds (block_of options inputs l ++ rest) OPENING (body_of options inputs l) }
+    ensures tables { (options : Options) (inputs : List Taken) (l : Positions) (rest : List ℕ)
+        → Fits options inputs l
+        → HoldsTables (block_of options inputs l ++ rest) (placed_inputs inputs l) }
 {}
 
 /// Each eight bytes of the body that follow each other hold a zero byte, so no statement stands in it.
 pub fn bodies_hold_zeros()
-    ensures { (options : Options) (inputs : List Taken) (l : Positions) → All Meets inputs → Fits options inputs l → HasZeros (body_of options inputs l) }
+    ensures { (options : Options) (inputs : List Taken) (l : Positions) → All Meets inputs
+        → Fits options inputs l → HasZeros (body_of options inputs l) }
 {}
 
 /// In the first 8192 bytes of a file that begins with a block `printf '` stands where the script has its statements, one for
 /// each input, that for x86-64 first, and nowhere else. What stands there is the canonical statement of the input's embedded
 /// header, up to a quote in the same bytes, and embeds that header (APE specification).
 pub fn statements_stand()
-    ensures only { (options : Options) (inputs : List Taken) (l : Positions) (rest : List ℕ) (k : ℕ) → All Meets inputs → Fits options inputs l
-        → Opens (block_of options inputs l ++ rest) k ↔ Contains (statement_places options inputs l) k }
-    ensures count { (options : Options) (inputs : List Taken) (l : Positions) → MachinesDiffer inputs → Fits options inputs l
+    ensures only { (options : Options) (inputs : List Taken) (l : Positions) (rest : List ℕ) (k : ℕ)
+        → All Meets inputs → Fits options inputs l
+        → Opens (block_of options inputs l ++ rest) k
+        ↔ Contains (statement_places options inputs l) k }
+    ensures count { (options : Options) (inputs : List Taken) (l : Positions)
+        → MachinesDiffer inputs → Fits options inputs l
         → length (statement_places options inputs l) ≡ length inputs }
-    ensures order { (options : Options) (inputs : List Taken) (l : Positions) → statement_place options inputs l X64 < statement_place options inputs l A64 }
-    ensures text { (options : Options) (inputs : List Taken) (l : Positions) (rest : List ℕ) (p : PlacedInput) → MachinesDiffer inputs → Fits options inputs l
-        → IsOneOf p (placed_inputs inputs l) → Holds (block_of options inputs l ++ rest) (statement_place options inputs l p.input.machine) (statement_of (embedded_bytes p.input p.table)) }
-    ensures within { (options : Options) (inputs : List Taken) (l : Positions) (p : PlacedInput) → MachinesDiffer inputs → Fits options inputs l
-        → IsOneOf p (placed_inputs inputs l) → statement_place options inputs l p.input.machine + length (statement_of (embedded_bytes p.input p.table)) ≤ WINDOW }
-    ensures embeds { (options : Options) (inputs : List Taken) (l : Positions) (rest : List ℕ) (p : PlacedInput) → MachinesDiffer inputs → Fits options inputs l
+    ensures order { (options : Options) (inputs : List Taken) (l : Positions)
+        → statement_place options inputs l X64 < statement_place options inputs l A64 }
+    ensures text { (options : Options) (inputs : List Taken) (l : Positions) (rest : List ℕ)
+        (p : PlacedInput) → MachinesDiffer inputs → Fits options inputs l
+        → IsOneOf p (placed_inputs inputs l)
+        → Holds (block_of options inputs l ++ rest)
+        (statement_place options inputs l p.input.machine)
+        (statement_of (embedded_bytes p.input p.table)) }
+    ensures within { (options : Options) (inputs : List Taken) (l : Positions) (p : PlacedInput)
+        → MachinesDiffer inputs → Fits options inputs l
+        → IsOneOf p (placed_inputs inputs l)
+        → statement_place options inputs l p.input.machine
+        + length (statement_of (embedded_bytes p.input p.table)) ≤ WINDOW }
+    ensures embeds { (options : Options) (inputs : List Taken) (l : Positions) (rest : List ℕ)
+        (p : PlacedInput) → MachinesDiffer inputs → Fits options inputs l
         → IsOneOf p (placed_inputs inputs l)
         → let place = statement_place options inputs l p.input.machine in
-        Embeds (block_of options inputs l ++ rest) place (place + 8 + length (octals_of (embedded_bytes p.input p.table))) (embedded_bytes p.input p.table) }
+        Embeds (block_of options inputs l ++ rest) place
+        (place + 8 + length (octals_of (embedded_bytes p.input p.table)))
+        (embedded_bytes p.input p.table) }
 {}
 
 /// The delimiter of a body that is shorter than 8192 bytes has a number below 8192 and stands nowhere in the body, whether a

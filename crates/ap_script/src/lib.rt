@@ -2,19 +2,19 @@
 //! that holds them.
 #![tactic(auto)]
 
-mod body;
-mod delimiter;
-mod ending;
-mod header;
-mod law;
-mod place;
-mod placed;
-mod placement;
-mod script;
-mod shell;
-mod table;
-mod tables;
-mod text;
+mod tables; // the program header tables, claimed
+mod shell; // the script and the magic, claimed
+mod header; // the embedded header of an input
+mod table; // its program header table
+mod place; // where an address of it stands in the linked file
+mod placed; // the inputs of a job, with their places
+mod placement; // an input with its places
+mod body; // the here-document's body
+mod delimiter; // its delimiter
+mod ending; // what stands behind it
+mod script; // the script
+mod text; // texts that are made piece by piece
+mod law; // what holds of a block, by its definitions
 
 pub use delimiter::choose_delimiter;
 pub use header::elf_header;

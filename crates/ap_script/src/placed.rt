@@ -23,7 +23,8 @@ pub(crate) fn input_count(job: &Job<'_>) -> usize
 pub(crate) fn placed_input<'i, 'l>(job: &Job<'i>, lay: &'l Layout, i: usize) -> Placement<'i, 'l>
     requires input { i < length (job_inputs job.now) }
     requires fits { Fits job.now.options (job_inputs job.now) lay.now }
-    ensures next { drop i (placed_inputs (job_inputs job.now) lay.now) ≡ placed_of result ∷ drop (i + 1) (placed_inputs (job_inputs job.now) lay.now) }
+    ensures next { drop i (placed_inputs (job_inputs job.now) lay.now) ≡ placed_of result
+        ∷ drop (i + 1) (placed_inputs (job_inputs job.now) lay.now) }
     ensures known { IsKnown (placed_of result) }
 {
     Placement {

@@ -52,9 +52,17 @@ pub(crate) struct Places {
 pub(crate) fn push_script(out: &mut Text, script: &Script) -> Places
     requires room { length out.old.items + 1452 ≤ WINDOW }
     requires small { script.now.skip + script.now.count ≤ 2048 }
-    ensures items { out.new.items ≡ out.old.items ++ script_of script.now.systems script.now.x64 script.now.a64 script.now.skip script.now.count }
-    ensures x64 { result.x64 ≡ length out.old.items + (length script_start + (length (system_lines script.now.systems script.now.x64 script.now.skip script.now.count) + length (machine_start X64))) }
-    ensures a64 { result.a64 ≡ length out.old.items + (length script_start + (length (system_lines script.now.systems script.now.x64 script.now.skip script.now.count) + (length (machine_lines X64 script.now.x64) + length (machine_start A64)))) }
+    ensures items { out.new.items ≡ out.old.items
+        ++ script_of script.now.systems script.now.x64 script.now.a64
+        script.now.skip script.now.count }
+    ensures x64 { result.x64 ≡ length out.old.items
+        + (length script_start
+        + (length (system_lines script.now.systems script.now.x64 script.now.skip script.now.count)
+        + length (machine_start X64))) }
+    ensures a64 { result.a64 ≡ length out.old.items
+        + (length script_start
+        + (length (system_lines script.now.systems script.now.x64 script.now.skip script.now.count)
+        + (length (machine_lines X64 script.now.x64) + length (machine_start A64)))) }
 {
     push_start(out);
     push_system_lines(out, script);
@@ -73,12 +81,13 @@ fn push_start(out: &mut Text)
     push_text(out, START);
 }
 
-/// Appends the lines that test the system.
+// Appends the lines that test the system.
 #[tactic(auto, using(std::proofs::Common::append_assoc), unfolding(crate::specs::Script::system_lines))]
 fn push_system_lines(out: &mut Text, script: &Script)
     requires room { length out.old.items + 350 ≤ WINDOW }
     requires small { script.now.skip + script.now.count ≤ 2048 }
-    ensures items { out.new.items ≡ out.old.items ++ system_lines script.now.systems script.now.x64 script.now.skip script.now.count }
+    ensures items { out.new.items ≡ out.old.items
+        ++ system_lines script.now.systems script.now.x64 script.now.skip script.now.count }
     ensures len { length out.new.items ≤ length out.old.items + 350 }
 {
     if script.systems.intersects(Systems::MAC) {
@@ -87,7 +96,7 @@ fn push_system_lines(out: &mut Text, script: &Script)
     push_system_line(out, script.systems);
 }
 
-/// Appends the lines for macOS.
+// Appends the lines for macOS.
 #[tactic(auto, using(std::proofs::Common::append_assoc), unfolding(crate::specs::Script::darwin_lines))]
 fn push_darwin_lines(out: &mut Text, x64: bool, skip: u32, count: u32)
     requires room { length out.old.items + 250 ≤ WINDOW }
@@ -114,7 +123,7 @@ fn push_darwin_x64(out: &mut Text, skip: u32, count: u32)
     push_text(out, b"exec \"$t\" \"$@\"\nfi\n");
 }
 
-/// Appends the line that writes the Mach-O header over the copy's first bytes.
+// Appends the line that writes the Mach-O header over the copy's first bytes.
 #[tactic(auto, using(std::proofs::Common::append_assoc), unfolding(crate::specs::Script::dd_line))]
 fn push_dd_line(out: &mut Text, skip: u32, count: u32)
     requires room { length out.old.items + 90 ≤ WINDOW }
@@ -129,7 +138,7 @@ fn push_dd_line(out: &mut Text, skip: u32, count: u32)
     push_text(out, b" conv=notrunc 2>/dev/null || exit 123\n");
 }
 
-/// Appends a number in decimal digits.
+// Appends a number in decimal digits.
 fn push_number(out: &mut Text, number: u32)
     requires room { length out.old.items + 4 ≤ WINDOW }
     requires small { number ≤ 2048 }
@@ -141,7 +150,7 @@ fn push_number(out: &mut Text, number: u32)
     push_text(out, &text[..count]);
 }
 
-/// Appends the line that tests for the systems whose kernels run ELF files.
+// Appends the line that tests for the systems whose kernels run ELF files.
 #[tactic(auto, using(std::proofs::Common::append_assoc), unfolding(crate::specs::Script::system_line))]
 fn push_system_line(out: &mut Text, systems: Systems)
     requires { length out.old.items + 100 ≤ WINDOW }
@@ -153,7 +162,7 @@ fn push_system_line(out: &mut Text, systems: Systems)
     push_text(out, b"; then\n");
 }
 
-/// Appends the tests of the chosen systems whose kernels run ELF files, or one that is never true.
+// Appends the tests of the chosen systems whose kernels run ELF files, or one that is never true.
 fn push_tests(out: &mut Text, systems: Systems)
     requires { length out.old.items + 90 ≤ WINDOW }
     ensures items { out.new.items ≡ out.old.items ++ or_tests (kernels_of systems) }
@@ -168,7 +177,7 @@ fn push_tests(out: &mut Text, systems: Systems)
     push_test(out, !(linux || freebsd || netbsd), false, b"[ 0 = 1 ]");
 }
 
-/// Appends a test that was chosen, behind others or not.
+// Appends a test that was chosen, behind others or not.
 fn push_test(out: &mut Text, chosen: bool, behind: bool, test: &[u8])
     requires short { length test.now ≤ 18 }
     requires room { length out.old.items + 22 ≤ WINDOW }
@@ -183,7 +192,7 @@ fn push_test(out: &mut Text, chosen: bool, behind: bool, test: &[u8])
     }
 }
 
-/// Appends the lines for a machine where there is an input for it, and answers where its statement begins or would begin.
+// Appends the lines for a machine where there is an input for it, and answers where its statement begins or would begin.
 fn push_machine(out: &mut Text, machine: Machine, header: &Option<[u8; EHDR_SIZE]>) -> usize
     requires { length out.old.items + 440 ≤ WINDOW }
     ensures items { out.new.items ≡ out.old.items ++ machine_lines machine header.now }

@@ -26,7 +26,8 @@ use arrayvec::ArrayVec;
 /// Then only claims in front of its own have been made.
 pub fn write_script(block: &mut Block, job: &Job<'_>, lay: &Layout) -> Result<(), Clash>
     requires { Fits job.now.options (job_inputs job.now) lay.now }
-    ensures { Makes block.old block.new (script_claims job.now.options (job_inputs job.now) lay.now) result }
+    ensures { Makes block.old block.new (script_claims job.now.options (job_inputs job.now) lay.now)
+        result }
 {
     let number = choose_delimiter(&body(job, lay));
     let ending = Ending::new(job, lay, number);
@@ -34,21 +35,25 @@ pub fn write_script(block: &mut Block, job: &Job<'_>, lay: &Layout) -> Result<()
     write_for_shells(block, number, lay.body_end as usize, &ending.text)
 }
 
-/// Claims what an APE loader looks for.
+// Claims what an APE loader looks for.
 fn write_for_loaders(block: &mut Block, x64: &Statement, a64: &Statement) -> Result<(), Clash>
     requires x64 { x64.now.place + MOST_STATEMENT ≤ WINDOW }
     requires a64 { a64.now.place + MOST_STATEMENT ≤ WINDOW }
-    ensures { Makes block.old block.new (claim Ape 0 spec.magic ∷ (statement_claims x64.now.header x64.now.place ++ statement_claims a64.now.header a64.now.place)) result }
+    ensures { Makes block.old block.new
+        (claim Ape 0 spec.magic
+        ∷ (statement_claims x64.now.header x64.now.place
+        ++ statement_claims a64.now.header a64.now.place)) result }
 {
     block.claim(Owner::Ape, 0, b"jartsr='")?;
     write_statement(block, x64)?;
     write_statement(block, a64)
 }
 
-/// Claims a statement, where there is one.
+// Claims a statement, where there is one.
 fn write_statement(block: &mut Block, statement: &Statement) -> Result<(), Clash>
     requires { statement.now.place + MOST_STATEMENT ≤ WINDOW }
-    ensures { Makes block.old block.new (statement_claims statement.now.header statement.now.place) result }
+    ensures { Makes block.old block.new (statement_claims statement.now.header statement.now.place)
+        result }
 {
     match &statement.header {
         None => Ok(()),
@@ -60,7 +65,7 @@ fn write_statement(block: &mut Block, statement: &Statement) -> Result<(), Clash
     }
 }
 
-/// Claims the script, which stands in the ending behind the here-document's body, and the line that opens the here-document.
+// Claims the script, which stands in the ending behind the here-document's body, and the line that opens the here-document.
 fn write_for_shells(
     block: &mut Block,
     number: u32,
@@ -68,14 +73,16 @@ fn write_for_shells(
     ending: &[u8],
 ) -> Result<(), Clash>
     requires { body_end + length ending.now ≤ WINDOW }
-    ensures { Makes block.old block.new (claim Shell 0 spec.magic_line ∷ claim Shell 64 (spec.opening_line number) ∷ claim Shell body_end ending.now ∷ []) result }
+    ensures { Makes block.old block.new
+        (claim Shell 0 spec.magic_line ∷ claim Shell 64 (spec.opening_line number)
+        ∷ claim Shell body_end ending.now ∷ []) result }
 {
     block.claim(Owner::Shell, 0, b"jartsr='\n")?;
     block.claim(Owner::Shell, 64, &opening_line(number))?;
     block.claim(Owner::Shell, body_end, ending)
 }
 
-/// The end of the line that opens the here-document.
+// The end of the line that opens the here-document.
 fn opening_line(number: u32) -> Text
     ensures items { result.items ≡ spec.opening_line number }
     ensures len { length result.items ≡ 22 }

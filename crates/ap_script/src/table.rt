@@ -16,14 +16,14 @@ use ap_layout::{Area, MOST_ENTRIES};
 use arrayvec::ArrayVec;
 use bitflags::Flags;
 
-/// The most bytes of a stack that is asked for.
+// The most bytes of a stack that is asked for.
 const MOST_STACK: u64 = 1 << 30;
-/// What a stack's size is a multiple of.
+// What a stack's size is a multiple of.
 const STACK_GRANULE: u64 = 1 << 16;
-/// What a stack's address is a multiple of.
+// What a stack's address is a multiple of.
 const STACK_ALIGN: u64 = 16;
 
-/// All flags that the memory of a program may have.
+// All flags that the memory of a program may have.
 const ALL_FLAGS: u32 = PF_R | PF_W | PF_X;
 
 pub(crate) type Table = ArrayVec<Entry, MOST_ENTRIES>;
@@ -100,7 +100,8 @@ fn stack_size(p: &Entry) -> u64
 fn push_notes(table: &mut Table, granule: u64, loads: &[Load], areas: &[Area], notes: &[Entry])
     requires placed { Placed granule loads.now areas.now }
     requires room { length table.old.items + length notes.now < MOST_ENTRIES }
-    ensures items { table.new.items ≡ table.old.items ++ map (spec.note_entry granule loads.now areas.now) notes.now }
+    ensures items { table.new.items ≡ table.old.items
+        ++ map (spec.note_entry granule loads.now areas.now) notes.now }
     ensures len { length table.new.items ≡ length table.old.items + length notes.now }
 {
     for p in notes {
@@ -127,7 +128,8 @@ fn note_entry(granule: u64, loads: &[Load], areas: &[Area], p: &Entry) -> Entry
 fn push_tls(table: &mut Table, granule: u64, loads: &[Load], areas: &[Area], tls: &Option<Entry>)
     requires placed { Placed granule loads.now areas.now }
     requires room { length table.old.items < MOST_ENTRIES }
-    ensures items { table.new.items ≡ table.old.items ++ tls_entries granule loads.now areas.now tls.now }
+    ensures items { table.new.items ≡ table.old.items
+        ++ tls_entries granule loads.now areas.now tls.now }
 {
     if let Some(p) = tls {
         table.push(tls_entry(granule, loads, areas, p));

@@ -22,7 +22,8 @@ use arrayvec::ArrayVec;
 /// of its own have been claimed.
 pub fn write_tables(block: &mut Block, job: &Job<'_>, lay: &Layout) -> Result<(), Clash>
     requires { Fits job.now.options (job_inputs job.now) lay.now }
-    ensures { Makes block.old block.new (table_claims (placed_inputs (job_inputs job.now) lay.now)) result }
+    ensures { Makes block.old block.new (table_claims (placed_inputs (job_inputs job.now) lay.now))
+        result }
 {
     for i in 0..input_count(job) {
         let p = placed_input(job, lay, i);
@@ -31,12 +32,13 @@ pub fn write_tables(block: &mut Block, job: &Job<'_>, lay: &Layout) -> Result<()
     Ok(())
 }
 
-/// Claims the table of an input whose loads have these areas.
+// Claims the table of an input whose loads have these areas.
 fn write_table(block: &mut Block, input: &Input, areas: &[Area], at: u32) -> Result<(), Clash>
     requires place { at + MOST_TABLE ≤ WINDOW }
     requires same { length areas.now ≡ length input.now.loads }
     requires places { All (λ x. x.file < FILE_TOP) areas.now }
-    ensures { Makes block.old block.new (claim Elf at (table_text input.now areas.now) ∷ []) result }
+    ensures { Makes block.old block.new (claim Elf at (table_text input.now areas.now) ∷ [])
+        result }
 {
     let mut text = ArrayVec::new();
     push_table(&mut text, input, areas);
