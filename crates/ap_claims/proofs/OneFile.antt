@@ -5,7 +5,7 @@ use Rattle.ap_fields.specs.Bytes.{Holds, listed}
 use Rattle.ap_fields.proofs.Bytes.{length-listed, get_or-listed}
 use Rattle.ap_claims.specs.Places.{IsOutside}
 use Rattle.ap_claims.specs.Lists.{Claim, end_of, Among}
-use Rattle.ap_claims.specs.Files.{IsFile, IsFree, ClaimsAgree, FilesAreMade, FilesAreOne, byte_at, file_of, has_place}
+use Rattle.ap_claims.specs.Files.{IsFree, ClaimsAgree, FilesAreMade, FilesAreOne, byte_at, file_of, has_place}
 use Rattle.ap_claims.proofs.Filled.{has_place-or}
 
 held-at : (file : List ℕ) (c : Claim) (k : ℕ) → Holds file c.at c.bytes → c.at ≤ k → k < end_of c → get_or file k 0 ≡ get_or c.bytes (k - c.at) 0

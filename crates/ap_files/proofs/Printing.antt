@@ -1,12 +1,10 @@
 -- Writes one behind the other.
-use Rattle.std.proofs.Common.{◌≡◌, ℕ, ◌+◌, ◌-◌, ◌≤◌, List, [], ◌++◌, length, take, drop, Option, Some, None, Ok, Err, refl, sym, ap, ◌∙◌, subst, arith, append_assoc, append-nil, length-drop}
+use Rattle.std.proofs.Common.{◌≡◌, ℕ, ◌+◌, ◌-◌, ◌≤◌, List, [], ◌++◌, length, take, drop, Option, Some, None, Ok, refl, sym, ap, ◌∙◌, subst, arith, append_assoc, append-nil, length-drop}
 use Rattle.std.proofs.lemmas.List.{take_rest}
 use Rattle.ap_files.proofs.Growing.{take_piece}
 use Rattle.std.specs.Option.{option_map}
-use Rattle.ap_files.specs.Files.{Rose}
 use Rattle.ap_files.specs.Sinks.{SinkState, Writes}
-use Rattle.ap_files.specs.declared.failure.Failed.{Failed}
-use Rattle.ap_files.specs.Prints.{Gains, Broken}
+use Rattle.ap_files.specs.Prints.{Gains}
 
 gained-nothing : (o : Option (List ℕ)) → o ≡ option_map (λ w. w ++ []) o
 gained-nothing None = refl

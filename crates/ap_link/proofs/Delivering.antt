@@ -17,7 +17,7 @@ use Rattle.ap_script.specs.Blocks.{block_of}
 use Rattle.ap_link.specs.declared.end.LinkEnd.{LinkEnd}
 use Rattle.ap_link.specs.declared.end.LinkEnd.TheVariants as end
 use Rattle.ap_link.specs.declared.source.Source.{Source}
-use Rattle.ap_link.specs.Linked.{block_for, tail_of, second_of, taken_second}
+use Rattle.ap_link.specs.Linked.{block_for, tail_of}
 use Rattle.ap_link.specs.LinkedClaims.{linked_of}
 use Rattle.ap_link.specs.Answers.{IsLinked}
 use Rattle.ap_link.specs.FileAnswers.{HasInputs, HasLinkedPart, LinksFiles}

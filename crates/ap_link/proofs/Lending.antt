@@ -17,7 +17,6 @@ use Rattle.ap_files.specs.declared.failure.FileFault.TheVariants.{Read, Write}
 use Rattle.ap_link.specs.declared.end.LinkEnd.{LinkEnd}
 use Rattle.ap_link.specs.declared.source.Source.{Source}
 use Rattle.ap_link.specs.Linked.{tail_of, second_of, taken_second}
-use Rattle.ap_link.specs.LinkedClaims.{linked_of}
 use Rattle.ap_link.specs.Lent.{IsLent, HasLent, LendsToFiles}
 use Rattle.ap_link.specs.Sources.{second_name, second_taken, IsSource, end_of_fault}
 use Rattle.ap_link.proofs.ClaimedFiles.{bytes-lent, owners-lent}

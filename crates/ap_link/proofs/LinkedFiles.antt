@@ -25,7 +25,7 @@ use Rattle.ap_loader.specs.declared.fault.ApeFault.TheVariants.{NoMagic}
 use Rattle.ap_elf.specs.ElfReading.{elf_reading}
 use Rattle.ap_layout.specs.declared.layout.Area.{Area}
 use Rattle.ap_layout.specs.Areas.{end_from}
-use Rattle.ap_layout.specs.Positions.{Positions, Fits, positions_of, inputs_of, PlacedInput, placed_inputs, input_areas, tables_start, table_length}
+use Rattle.ap_layout.specs.Positions.{Positions, Fits, positions_of, inputs_of, placed_inputs, input_areas, tables_start, table_length}
 use Rattle.ap_layout.proofs.Rounded.{granule_of-is}
 use Rattle.ap_layout.proofs.NewAreas.{end-least}
 use Rattle.ap_layout.proofs.Fitting.{positions-fit, table-most}
@@ -265,10 +265,6 @@ claimed-file : (options : Options) (e : Taken) (a : List ℕ) (o : Option (Taken
 claimed-file options e a o h =
     whole-claimed (block_for options e (bare-of o)) (block_claims options (inputs_of e (bare-of o)) (positions_of options e (bare-of o))) e a o (positions_of options e (bare-of o)).total
     (block-claimed options (inputs_of e (bare-of o)) (positions_of options e (bare-of o)) (positions-fit options e (bare-of o) h.first h.second)) (file-length options e a o h)
-
-taken-with : (b : Option (List ℕ)) → bare-of (second_of b) ≡ taken_second b
-taken-with None = refl
-taken-with (Some x) = refl
 
 -- the file as it is written is the file of its claims
 pub linked-is : (options : Options) (a : List ℕ) (b : Option (List ℕ)) → AreLinkable (input_of 1 a) (taken_second b)

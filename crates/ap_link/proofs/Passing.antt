@@ -11,7 +11,7 @@ use Rattle.ap_elf.specs.ElfReading.{load_rules, loads_rules}
 use Rattle.ap_check.specs.declared.load.Load.{Load}
 use Rattle.ap_check.specs.Inputs.{IsLoad, AreLoads}
 use Rattle.ap_elfmap.specs.ElfPlans as elf
-use Rattle.ap_elfmap.specs.ElfPlans.{region_of, start_of, stop_of}
+use Rattle.ap_elfmap.specs.ElfPlans.{region_of}
 use Rattle.ap_layout.specs.declared.layout.Area.{Area}
 use Rattle.ap_layout.specs.Areas.{content_length}
 use Rattle.ap_script.specs.Tables.{load_entry, load_entries}

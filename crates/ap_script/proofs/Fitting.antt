@@ -98,16 +98,6 @@ placed-at (x ∷ inputs) rest (areas ∷ more) (t ∷ tables) (suc i) e all is =
     let later : only_inputs (placed inputs more tables) ≡ inputs = cc in
     placed-at inputs rest more tables i e later is
 
--- there is a table for each
-pub tables-enough : (inputs : List Taken) (lists : List (List Area)) (tables : List ℕ) → only_inputs (placed inputs lists tables) ≡ inputs → length inputs ≤ length tables
-tables-enough [] lists tables all = omega arith
-tables-enough (x ∷ inputs) [] tables all = let none : [] ≡ x ∷ inputs = all in absurd (cc)
-tables-enough (x ∷ inputs) (areas ∷ more) [] all = let none : [] ≡ x ∷ inputs = all in absurd (cc)
-tables-enough (x ∷ inputs) (areas ∷ more) (t ∷ tables) all =
-    let later : only_inputs (placed inputs more tables) ≡ inputs = cc in
-    let rest = tables-enough inputs more tables later in
-    omega arith
-
 pub few-inputs : (e : Taken) (o : Option Taken) → length (inputs_of e o) ≤ 2
 few-inputs e None = omega arith
 few-inputs e (Some f) = omega arith

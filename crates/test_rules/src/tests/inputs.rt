@@ -1,8 +1,8 @@
 // What is taken of inputs, of two together, and of a file by its name.
 use super::{Edit, LOAD, PLAIN, Row, USUAL, USUAL_ROWS, entry_of, front, linux, other, taken};
 use ap_check::*;
-use ap_files::MemoryFiles;
 use ap_fields::Perms;
+use ap_files::MemoryFiles;
 use bitflags::Flags;
 use std::process::Abort;
 use std::test::Fail;

@@ -1,6 +1,5 @@
 use Rattle.std.proofs.Common.{◌∙◌, ap}
 use Rattle.std.specs.Option.{option_copied}
-use Rattle.ap_check.specs.declared.options.Options.{Options}
 use Rattle.ap_layout.specs.Positions.{Positions, positions_of, inputs_of}
 use Rattle.ap_link.specs.Sources.{second_name, second_taken}
 use Rattle.ap_link.proofs.Delivering.{sources-readable, all-ready, links-made, links-unmade, links-refused, positions-as, block-as, pair-as, says-as}
@@ -17,7 +16,7 @@ pub write_linked-requires-clause-lay : goal.write_linked-requires-clause-lay
 write_linked-requires-clause-lay g c = (
   c.args.options.now,
   positions-as c.args.options.now c.in-Ok.job.options c.place-lay.result c.args.sources.now.first.input.now c.in-Ok.job.first.now (second_taken c.args.sources.now.second) (option_copied c.in-Ok.job.second)
-  c.place-lay.ensures.positions c.in-Ok.ensures.options c.in-Ok.ensures.first (c.in-Ok.ensures.second ∙ c.second_input.ensures),
+      c.place-lay.ensures.positions c.in-Ok.ensures.options c.in-Ok.ensures.first (c.in-Ok.ensures.second ∙ c.second_input.ensures),
 )
 
 pub write_linked-requires-clause-sources : goal.write_linked-requires-clause-sources
