@@ -23,7 +23,9 @@ pub fn check_all<'a>(
     requires first { first.now.number ≡ 1 }
     requires second { IfSome (option_copied second) (λ i. i.number ≡ 2) }
     ensures rules { Checks result (pair_rules options.now first.now (option_copied second.entry)) }
-    ensures bytes { (a : List ℕ) (b : Option (List ℕ)) → AreTakenOf a b first.now (option_copied second.entry) → Checks result (rules_of_both options.now a b) }
+    ensures bytes { (a : List ℕ) (b : Option (List ℕ))
+        → AreTakenOf a b first.now (option_copied second.entry)
+        → Checks result (rules_of_both options.now a b) }
     ensures first { IfOk result (λ job. job.first.now ≡ first.now) }
     ensures second { IfOk result (λ job. option_copied job.second ≡ option_copied second.entry) }
     ensures options { IfOk result (λ job. job.options ≡ options.now) }
@@ -41,7 +43,8 @@ pub fn check_all<'a>(
 // Rule 23: two inputs are for different machines.
 fn check_machines(first: &Input, second: Option<&Input>) -> Result<(), Fault>
     ensures rules { Checks result (taken_machines_rules first.now (option_copied second.entry)) }
-    ensures machines { OnOk result (IfSome (option_copied second.entry) (λ i. first.now.machine ≢ i.machine)) }
+    ensures machines { OnOk result
+        (IfSome (option_copied second.entry) (λ i. first.now.machine ≢ i.machine)) }
 {
     match second {
         Some(other) if first.machine == other.machine => {

@@ -11,7 +11,8 @@ use crate::files::Files;
 /// `Failed`: a call failed, and the first bytes of the piece are appended, or none.
 pub fn append<F: Files>(files: &mut F, name: &str, piece: &[u8]) -> Result<(), Failed>
     requires { IsUnfinished (F.state files.old) name.now }
-    ensures { Appends (F.state files.old) (F.state files.new) name.now piece.now (write_failure result) }
+    ensures { Appends (F.state files.old) (F.state files.new) name.now piece.now
+        (write_failure result) }
 {
     let mut at = 0;
     while at < piece.len() {

@@ -101,7 +101,8 @@ impl Store {
         requires there { IsSome (map.get self.old.files name.now) }
         requires count { count ≤ length piece.now }
         ensures fits { result ≡ has_room_for self.old name.now (length piece.now) }
-        ensures appended { OnTrue result (self.new ≡ added_in self.old name.now (take count piece.now)) }
+        ensures appended { OnTrue result
+            (self.new ≡ added_in self.old name.now (take count piece.now)) }
         ensures full { OnFalse result (self.new ≡ self.old) }
     {
         let Some(i) = find(&self.slots, name) else {
@@ -126,7 +127,8 @@ impl Store {
 
     /// Ends the writing of a file, where it is the unfinished one.
     pub fn finish(&mut self, name: &str)
-        ensures { self.new ≡ record self.old { unfinished = after_finish self.old.unfinished name.now } }
+        ensures { self.new
+            ≡ record self.old { unfinished = after_finish self.old.unfinished name.now } }
     {
         if let Some(i) = self.unfinished
             && self.slots[i].has_name(name)

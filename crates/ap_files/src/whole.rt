@@ -42,7 +42,8 @@ pub fn read_all<F: Files>(
 ///
 /// `Failed`: a write failed; the file was not started, or it has the first of the bytes and is unfinished.
 pub fn write_all<F: Files>(files: &mut F, name: &str, bytes: &[u8]) -> Result<(), Failed>
-    ensures { Makes (F.state files.old) (F.state files.new) name.now bytes.now (write_failure result) }
+    ensures { Makes (F.state files.old) (F.state files.new) name.now bytes.now
+        (write_failure result) }
 {
     files.start(name)?;
     append(files, name, bytes)?;

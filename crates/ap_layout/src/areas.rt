@@ -36,7 +36,8 @@ fn areas_of_loads(loads: &[Load], granule: u64, from: u64) -> Placed
     requires small { from + (bytes_of_loads loads.now + MOST_BESIDE * length loads.now) < 2 ^ 62 }
     ensures areas { result.areas.items ≡ areas_of no_sharing 0 granule loads.now from }
     ensures end { result.end ≡ end_from from (areas_of no_sharing 0 granule loads.now from) }
-    ensures bound { result.end ≤ from + (bytes_of_loads loads.now + MOST_BESIDE * length loads.now) }
+    ensures bound { result.end
+        ≤ from + (bytes_of_loads loads.now + MOST_BESIDE * length loads.now) }
 {
     let mut areas = ArrayVec::new();
     let mut end = from;

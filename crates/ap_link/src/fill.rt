@@ -17,7 +17,8 @@ use ap_script::{write_script, write_tables};
 pub fn fill(block: &mut Block, job: &Job<'_>, lay: &Layout)
     requires free { block.old ≡ free_block }
     requires fits { Fits job.now.options (job_inputs job.now) lay.now }
-    ensures filled { IsFilled (block_claims job.now.options (job_inputs job.now) lay.now) block.new }
+    ensures filled { IsFilled (block_claims job.now.options (job_inputs job.now) lay.now)
+        block.new }
     ensures bytes { block.new.bytes ≡ block_of job.now.options (job_inputs job.now) lay.now }
 {
     match write(block, job, lay) {
@@ -29,7 +30,8 @@ pub fn fill(block: &mut Block, job: &Job<'_>, lay: &Layout)
 // Makes the claims of all formats, those of the script behind all others.
 fn write(block: &mut Block, job: &Job<'_>, lay: &Layout) -> Result<(), Clash>
     requires { Fits job.now.options (job_inputs job.now) lay.now }
-    ensures { Makes block.old block.new (block_claims job.now.options (job_inputs job.now) lay.now) result }
+    ensures { Makes block.old block.new (block_claims job.now.options (job_inputs job.now) lay.now)
+        result }
 {
     write_tables(block, job, lay)?;
     write_script(block, job, lay)

@@ -26,7 +26,9 @@ pub struct HeldFiles<'a> {
 
 impl HeldFiles<'_> {
     fn file(&self, name: &str) -> Option<&[u8]>
-        ensures { option_copied result ≡ held_file self.now.first.now (option_copied self.now.second) (held_out self.now.is_made self.now.out.items) name.now }
+        ensures { option_copied result
+            ≡ held_file self.now.first.now (option_copied self.now.second)
+            (held_out self.now.is_made self.now.out.items) name.now }
     {
         if name == OUT {
             if self.is_made { Some(&self.out) } else { None }

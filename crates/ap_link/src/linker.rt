@@ -31,7 +31,8 @@ pub fn link(
     requires options { AreTaken options.now }
     requires free { block.old ≡ free_block }
     ensures file { LinkAnswers options.now result first.now (option_copied second.entry) }
-    ensures block { Lends options.now block.old block.new first.now (option_copied second.entry) result }
+    ensures block { Lends options.now block.old block.new first.now (option_copied second.entry)
+        result }
 {
     let mut files = HeldFiles {
         first,

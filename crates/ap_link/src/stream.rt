@@ -39,8 +39,10 @@ pub fn link_stream<F: Files>(
     requires second { IfSome (option_copied second) (λ n. n ≢ out.now) }
     requires options { AreTaken options.now }
     requires free { block.old ≡ free_block }
-    ensures block { LendsToFiles options.now (F.state files.old).kept block.old block.new first.now (option_copied second.entry) result }
-    ensures files { LinksFiles options.now (F.state files.old) (F.state files.new) first.now (option_copied second.entry) out.now result }
+    ensures block { LendsToFiles options.now (F.state files.old).kept block.old block.new first.now
+        (option_copied second.entry) result }
+    ensures files { LinksFiles options.now (F.state files.old) (F.state files.new) first.now
+        (option_copied second.entry) out.now result }
 {
     let input = match check_input_in(files, first, 1) {
         Ok(input) => input,
@@ -68,8 +70,10 @@ fn link_first<F: Files>(
     requires apart { first.now.name.now ≢ out.now }
     requires options { AreTaken options.now }
     requires free { block.old ≡ free_block }
-    ensures block { LendsToFiles options.now (F.state files.old).kept block.old block.new first.now.name.now None result }
-    ensures files { LinksFiles options.now (F.state files.old) (F.state files.new) first.now.name.now None out.now result }
+    ensures block { LendsToFiles options.now (F.state files.old).kept block.old block.new
+        first.now.name.now None result }
+    ensures files { LinksFiles options.now (F.state files.old) (F.state files.new)
+        first.now.name.now None out.now result }
 {
     let sources = Sources {
         first: *first,
@@ -92,8 +96,10 @@ fn link_second<F: Files>(
     requires others { name.now ≢ out.now }
     requires options { AreTaken options.now }
     requires free { block.old ≡ free_block }
-    ensures block { LendsToFiles options.now (F.state files.old).kept block.old block.new first.now.name.now (Some name.now) result }
-    ensures files { LinksFiles options.now (F.state files.old) (F.state files.new) first.now.name.now (Some name.now) out.now result }
+    ensures block { LendsToFiles options.now (F.state files.old).kept block.old block.new
+        first.now.name.now (Some name.now) result }
+    ensures files { LinksFiles options.now (F.state files.old) (F.state files.new)
+        first.now.name.now (Some name.now) out.now result }
 {
     let input = match check_input_in(files, name, 2) {
         Ok(input) => input,
@@ -124,8 +130,10 @@ fn link_sources<F: Files>(
     requires others { IfSome sources.now.second (λ s. s.name.now ≢ out.now) }
     requires options { AreTaken options.now }
     requires free { block.old ≡ free_block }
-    ensures block { LendsToFiles options.now (F.state files.old).kept block.old block.new sources.now.first.name.now (second_name sources.now.second) result }
-    ensures files { LinksFiles options.now (F.state files.old) (F.state files.new) sources.now.first.name.now (second_name sources.now.second) out.now result }
+    ensures block { LendsToFiles options.now (F.state files.old).kept block.old block.new
+        sources.now.first.name.now (second_name sources.now.second) result }
+    ensures files { LinksFiles options.now (F.state files.old) (F.state files.new)
+        sources.now.first.name.now (second_name sources.now.second) out.now result }
 {
     let job = match check_all(sources.first.input, second_input(sources), options) {
         Ok(job) => job,

@@ -19,9 +19,11 @@ pub fn write_linked<F: Files>(
     block: &[u8],
     out: &str,
 ) -> Result<(), FileFault>
-    requires lay { ArePositions sources.now.first.input.now (second_taken sources.now.second) lay.now }
+    requires lay { ArePositions sources.now.first.input.now (second_taken sources.now.second)
+        lay.now }
     requires small { lay.now.total < 2 ^ 31 }
-    requires sources { AreReadable (F.state files.old).kept sources.now.first sources.now.second out.now }
+    requires sources { AreReadable (F.state files.old).kept sources.now.first sources.now.second
+        out.now }
     ensures { Makes (F.state files.old) (F.state files.new) out.now
         (block.now ++ tail_told (F.state files.old).kept sources.now.first sources.now.second) (failure_of result) }
 {
@@ -45,9 +47,11 @@ fn write_inputs<F: Files>(
     lay: &Layout,
     out: &str,
 ) -> Result<(), FileFault>
-    requires lay { ArePositions sources.now.first.input.now (second_taken sources.now.second) lay.now }
+    requires lay { ArePositions sources.now.first.input.now (second_taken sources.now.second)
+        lay.now }
     requires small { lay.now.total < 2 ^ 31 }
-    requires sources { AreReadable (F.state files.old).kept sources.now.first sources.now.second out.now }
+    requires sources { AreReadable (F.state files.old).kept sources.now.first sources.now.second
+        out.now }
     requires out { IsUnfinished (F.state files.old) out.now }
     ensures { Appends (F.state files.old) (F.state files.new) out.now
         (tail_told (F.state files.old).kept sources.now.first sources.now.second) (failure_of result) }

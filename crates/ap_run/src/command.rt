@@ -37,9 +37,12 @@ pub fn run<F: Files, O: Sink, E: Sink>(
     err: &mut E,
 ) -> End
     ensures status { result.status ≡ status_of result.cause }
-    ensures ends { RunEnds (F.state files.old) (F.state files.new) (O.state out.old) (O.state out.new) (texts_of words.now) result.cause }
-    ensures complete { IsComplete (F.state files.old) (F.state files.new) (O.state out.old) (O.state out.new) (texts_of words.now) result.cause }
-    ensures cells { (view : WordsView) (file : List ℕ) → view_in (texts_of words.now) ≡ Some view → IsPlanOf (plan_in view.format file) file (reading_in view.format file) }
+    ensures ends { RunEnds (F.state files.old) (F.state files.new) (O.state out.old)
+        (O.state out.new) (texts_of words.now) result.cause }
+    ensures complete { IsComplete (F.state files.old) (F.state files.new) (O.state out.old)
+        (O.state out.new) (texts_of words.now) result.cause }
+    ensures cells { (view : WordsView) (file : List ℕ) → view_in (texts_of words.now) ≡ Some view
+        → IsPlanOf (plan_in view.format file) file (reading_in view.format file) }
     ensures err { Reports (E.state err.old) (E.state err.new) (line_of result.cause) }
 {
     let cause = obey(alloc, words, files, out);
@@ -47,7 +50,8 @@ pub fn run<F: Files, O: Sink, E: Sink>(
 }
 
 fn obey<F: Files, O: Sink>(alloc: Global, words: &[String], files: &mut F, out: &mut O) -> Cause
-    ensures { RunEnds (F.state files.old) (F.state files.new) (O.state out.old) (O.state out.new) (texts_of words.now) result }
+    ensures { RunEnds (F.state files.old) (F.state files.new) (O.state out.old) (O.state out.new)
+        (texts_of words.now) result }
 {
     if let Some(names) = read_link(words) {
         return link(files, &names);
@@ -60,7 +64,8 @@ fn obey<F: Files, O: Sink>(alloc: Global, words: &[String], files: &mut F, out: 
 
 fn show_view<F: Files, O: Sink>(alloc: Global, files: &mut F, out: &mut O, view: &View<'_>) -> Cause
     requires { IsPage view.now.format.machine view.now.format.page }
-    ensures { ViewEnds (F.state files.old) (F.state files.new) (O.state out.old) (O.state out.new) view.now.format view.now.file.now (option_copied view.now.dump) result }
+    ensures { ViewEnds (F.state files.old) (F.state files.new) (O.state out.old) (O.state out.new)
+        view.now.format view.now.file.now (option_copied view.now.dump) result }
 {
     match view.dump {
         None => show(alloc, files, out, &view.format, view.file),

@@ -35,7 +35,8 @@ pub fn dump<F: Files, O: Sink>(
     image: &str,
 ) -> Cause
     requires { IsPage format.now.machine format.now.page }
-    ensures { DumpEnds (F.state files.old) (F.state files.new) (O.state out.old) (O.state out.new) format.now name.now image.now result }
+    ensures { DumpEnds (F.state files.old) (F.state files.new) (O.state out.old) (O.state out.new)
+        format.now name.now image.now result }
 {
     let parts = match parts_of(alloc, files, format, name) {
         Ok(parts) => parts,

@@ -45,7 +45,8 @@ impl Format {
     ) -> Result<Result<Plan, ReadingFault>, Failed>
         requires page { IsPage self.now.machine self.now.page }
         requires size { HasSize (F.state files.old).kept name.now size }
-        ensures read { Reads (F.state files.old) (F.state files.new) name.now (λ b plan. plan ≡ plan_in self.now b) result }
+        ensures read { Reads (F.state files.old) (F.state files.new) name.now
+            (λ b plan. plan ≡ plan_in self.now b) result }
         ensures backed { IfOk result (λ plan. IfOk plan (λ p. AreBacked p.regions size)) }
     {
         match self.form {
@@ -64,7 +65,8 @@ fn ape_plan<F: Files>(
 ) -> Result<Result<Plan, ReadingFault>, Failed>
     requires page { IsPage machine page }
     requires size { HasSize (F.state files.old).kept name.now size }
-    ensures read { Reads (F.state files.old) (F.state files.new) name.now (λ b plan. plan ≡ spec.ape_plan_in machine page b) result }
+    ensures read { Reads (F.state files.old) (F.state files.new) name.now
+        (λ b plan. plan ≡ spec.ape_plan_in machine page b) result }
     ensures backed { IfOk result (λ plan. IfOk plan (λ p. AreBacked p.regions size)) }
 {
     let reading = ApeReading { machine, page };
@@ -83,7 +85,8 @@ fn elf_plan<F: Files>(
 ) -> Result<Result<Plan, ReadingFault>, Failed>
     requires page { IsPage machine page }
     requires size { HasSize (F.state files.old).kept name.now size }
-    ensures read { Reads (F.state files.old) (F.state files.new) name.now (λ b plan. plan ≡ spec.elf_plan_in machine page b) result }
+    ensures read { Reads (F.state files.old) (F.state files.new) name.now
+        (λ b plan. plan ≡ spec.elf_plan_in machine page b) result }
     ensures backed { IfOk result (λ plan. IfOk plan (λ p. AreBacked p.regions size)) }
 {
     let reading = ElfReading { machine, page };

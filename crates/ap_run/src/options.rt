@@ -40,7 +40,9 @@ struct Given<'a> {
 /// `aarch64`. N is 4096, or 16384 for AArch64; where it isn't given, it is the greatest of the machine. OUT isn't FILE.
 pub fn read_view(words: &[String]) -> Option<View<'_>>
     ensures page { IfSome result (λ v. IsPage v.format.machine v.format.page) }
-    ensures view { option_map (λ v. record { format = v.format; dump = option_copied v.dump; file = v.file.now }) result ≡ spec.view_in (texts_of words.now) }
+    ensures view { option_map
+        (λ v. record { format = v.format; dump = option_copied v.dump; file = v.file.now }) result
+        ≡ spec.view_in (texts_of words.now) }
 {
     let [command, rest @ ..] = words else {
         return None;
@@ -51,7 +53,15 @@ pub fn read_view(words: &[String]) -> Option<View<'_>>
 
 fn view_of<'a>(command: &str, given: Given<'a>) -> Option<View<'a>>
     ensures page { IfSome result (λ v. IsPage v.format.machine v.format.page) }
-    ensures view { option_map (λ v. record { format = v.format; dump = option_copied v.dump; file = v.file.now }) result ≡ spec.view_of command.now (record { options = given.entry.options; dump = option_copied given.entry.dump; file = given.entry.file.now }) }
+    ensures view { option_map
+        (λ v. record { format = v.format; dump = option_copied v.dump; file = v.file.now }) result
+        ≡ spec.view_of command.now
+        (record {
+          options = given.entry.options;
+          dump = option_copied given.entry.dump;
+          file
+              = given.entry.file.now;
+        }) }
 {
     if !dump_fits(command, given.dump, given.file) {
         return None;
@@ -83,7 +93,9 @@ const NO_OPTIONS: Options = Options {
 // The options in the words behind others, and the file.
 #[tactic(auto, unfolding(crate::specs::Options::given_in))]
 fn read_given<'a>(options: Options, dump: Option<&'a str>, words: &'a [String]) -> Option<Given<'a>>
-    ensures { option_map (λ g. record { options = g.options; dump = option_copied g.dump; file = g.file.now }) result ≡ spec.given_in options (option_copied dump.entry) (texts_of words.now) }
+    ensures { option_map
+        (λ g. record { options = g.options; dump = option_copied g.dump; file = g.file.now })
+        result ≡ spec.given_in options (option_copied dump.entry) (texts_of words.now) }
 {
     match words {
         [] => None,
@@ -100,7 +112,9 @@ fn read_given<'a>(options: Options, dump: Option<&'a str>, words: &'a [String]) 
 }
 
 fn read_file<'a>(options: Options, dump: Option<&'a str>, file: &'a str) -> Option<Given<'a>>
-    ensures { option_map (λ g. record { options = g.options; dump = option_copied g.dump; file = g.file.now }) result ≡ spec.file_in options (option_copied dump.entry) file.now }
+    ensures { option_map
+        (λ g. record { options = g.options; dump = option_copied g.dump; file = g.file.now })
+        result ≡ spec.file_in options (option_copied dump.entry) file.now }
 {
     if is_option(file) {
         None

@@ -19,7 +19,8 @@ pub fn show<F: Files, O: Sink>(
     name: &str,
 ) -> Cause
     requires { IsPage format.now.machine format.now.page }
-    ensures { Ends (F.state files.old) (F.state files.new) (O.state out.old) (O.state out.new) format.now name.now result }
+    ensures { Ends (F.state files.old) (F.state files.new) (O.state out.old) (O.state out.new)
+        format.now name.now result }
 {
     match text_of(alloc, files, format, name) {
         Ok(text) => print_text(out, &text),

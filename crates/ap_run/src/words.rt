@@ -54,7 +54,8 @@ fn link_with<'a>(
     requires { systems.0 < 8 }
     ensures first { IfSome result (λ l. l.first.now ≢ l.out.now) }
     ensures second { IfSome result (λ l. IfSome (option_copied l.second) (λ n. n ≢ l.out.now)) }
-    ensures names { option_map link_names result ≡ names_with systems out.now first.now (option_copied second.entry) }
+    ensures names { option_map link_names result
+        ≡ names_with systems out.now first.now (option_copied second.entry) }
 {
     if out == first || !is_other(out, second) {
         return None;
@@ -80,7 +81,8 @@ fn is_other(out: &str, second: Option<&str>) -> bool
 // What words say, besides what is said already.
 #[tactic(auto, unfolding(crate::specs::Words::parts_in))]
 fn read_parts<'a>(parts: Parts<'a>, words: &'a [String]) -> Option<Parts<'a>>
-    ensures { option_map link_parts result ≡ parts_in (link_parts parts.entry) (texts_of words.now) }
+    ensures { option_map link_parts result
+        ≡ parts_in (link_parts parts.entry) (texts_of words.now) }
 {
     match words {
         [] => Some(parts),
@@ -113,7 +115,8 @@ fn with_last<'a>(parts: Parts<'a>, word: &'a str) -> Option<Parts<'a>>
 
 // What an option and its value say besides.
 fn with_value<'a>(parts: Parts<'a>, name: &str, value: &'a str) -> Option<Parts<'a>>
-    ensures { option_map link_parts result ≡ spec.with_value (link_parts parts.entry) name.now value.now }
+    ensures { option_map link_parts result
+        ≡ spec.with_value (link_parts parts.entry) name.now value.now }
 {
     if name == "--systems" {
         with_systems(parts, value)
@@ -155,7 +158,8 @@ fn with_out<'a>(parts: Parts<'a>, value: &'a str) -> Option<Parts<'a>>
 
 // What one or two inputs say besides.
 fn with_inputs<'a>(parts: Parts<'a>, first: &'a str, second: Option<&'a str>) -> Option<Parts<'a>>
-    ensures { option_map link_parts result ≡ spec.with_inputs (link_parts parts.entry) first.now (option_copied second.entry) }
+    ensures { option_map link_parts result
+        ≡ spec.with_inputs (link_parts parts.entry) first.now (option_copied second.entry) }
 {
     if parts.first.is_some() {
         return None;
