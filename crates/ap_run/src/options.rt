@@ -59,8 +59,7 @@ fn view_of<'a>(command: &str, given: Given<'a>) -> Option<View<'a>>
         (record {
           options = given.entry.options;
           dump = option_copied given.entry.dump;
-          file
-              = given.entry.file.now;
+          file = given.entry.file.now;
         }) }
 {
     if !dump_fits(command, given.dump, given.file) {
