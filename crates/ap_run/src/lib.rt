@@ -1,19 +1,19 @@
 //! What the program apetool does: links, loads and maps over any files and any places to print.
 #![tactic(auto)]
 
-mod command;
-mod dump;
-mod end;
-mod fetch;
-mod format;
-mod line;
-mod link;
-mod options;
-mod planned;
-mod show;
-mod systems;
-mod text;
-mod words;
+mod command; // a run
+mod end; // how it ends
+mod line; // the line that says why
+mod words; // the words of a link
+mod link; // what they name
+mod systems; // the systems among them
+mod options; // the words of a view
+mod format; // the formats that files are read by
+mod planned; // the plan of a file, by its name
+mod fetch; // the length of a file
+mod show; // a file that is shown
+mod dump; // the same, with its image file
+mod text; // the text of a plan
 
 pub use command::run;
 pub use end::{Cause, End, ReadingFault, end_by};
