@@ -22,8 +22,8 @@ use ap_layout::place;
 /// size take no memory of the heap.
 ///
 /// - `Rule`: the inputs break a rule, and this is the first one, all of input 1 before those of input 2; no file changed.
-/// - `ReadFault`: an input isn't there, or a read failed; no file changed, or `out` has a front of the linked file.
-/// - `WriteFault`: a write failed; no file changed, or `out` has a front of the linked file.
+/// - `ReadFault`: an input isn't there, or a read failed; no file changed, or `out` is unfinished with a front of the linked file.
+/// - `WriteFault`: a write failed; no file changed, or `out` is unfinished with a front of the linked file.
 ///
 /// The block, which is free, holds the first bytes of the linked file afterwards, each with the owners that claim it. Where the
 /// inputs break a rule it stays as it was, and after a failure it is either.
