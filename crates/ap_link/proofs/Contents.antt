@@ -8,7 +8,8 @@ use Rattle.ap_fields.specs.Granules.{IsGranule, floor_of, ceil_of}
 use Rattle.ap_fields.proofs.Bytes.{length-listed, get_or-listed, length-zeros, get_or-zeros}
 use Rattle.ap_check.specs.declared.load.Load.{Load}
 use Rattle.ap_layout.specs.Areas.{content_of, content_length}
-use Rattle.ap_link.proofs.Granules.{ceil-least, ceil-apart}
+use Rattle.ap_link.proofs.Granules.{ceil-apart}
+use Rattle.ap_fields.proofs.Granules.{ceil_of-least}
 
 -- bytes between zeros, by the place
 between : (d n z k : ℕ) (bytes : List ℕ) (f : ℕ → ℕ) → length bytes ≡ n → ((i : ℕ) → i < n → get_or bytes i 0 ≡ f i)
@@ -41,7 +42,7 @@ content-at g byte p k =
 -- it has room for the load's bytes
 pub content-room : (g : ℕ) (p : Load) → IsGranule g → p.vaddr % g + p.filesz ≤ content_length g p
 unfolding content_length
-content-room g p is = ceil-least (p.vaddr % g + p.filesz) g is
+content-room g p is = ceil_of-least (p.vaddr % g + p.filesz) g is
 
 pub length-content : (g : ℕ) (byte : ℕ → ℕ) (p : Load) → IsGranule g → length (content_of g byte p) ≡ content_length g p
 unfolding content_of

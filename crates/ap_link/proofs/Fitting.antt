@@ -16,10 +16,11 @@ use Rattle.ap_layout.specs.declared.layout.Area.{Area}
 use Rattle.ap_layout.specs.Positions.{entry_count, one_if}
 use Rattle.ap_script.specs.Tables.{load_entry, load_entries, stack_entries, is_backed, place_of, note_entry, tls_entries, table_of, embedded_header}
 use Rattle.ap_link.specs.LinkedIn.{IsHeld, HoldAll}
-use Rattle.ap_link.proofs.Granules.{granule-is, granule-fits, floor-sum}
+use Rattle.ap_link.proofs.Granules.{granule-fits, floor-sum}
 use Rattle.ap_link.proofs.Passing.{area-fits}
 use Rattle.ap_link.proofs.Rows.{other_entries, table-parts}
 use Rattle.ap_elf.specs.Written.{HeaderFits, EntryFits, EntriesFit}
+use Rattle.ap_layout.proofs.Rounded.{granule_of-is}
 
 -- the place of an area
 area-small : (g : ℕ) (byte : ℕ → ℕ) (file : List ℕ) (p : Load) (x : Area) → IsGranule g → IsHeld g byte file p x → length file < 2 ^ 31 → x.file < 2 ^ 31
@@ -145,7 +146,7 @@ tls-fits g size low byte file loads areas (Some p) is order held small h =
 pub table-fits : (e : Taken) (byte : ℕ → ℕ) (file : List ℕ) (areas : List Area) → Meets e → HoldAll (granule_of e.machine) byte file e.loads areas → length file < 2 ^ 31 → EntriesFit (table_of e areas)
 table-fits e byte file areas meets held small =
     let g : ℕ = granule_of e.machine in
-    let is : IsGranule g = granule-is e.machine in
+    let is : IsGranule g = granule_of-is e.machine in
     let notes : List Entry = map (note_entry g e.loads areas) e.notes in
     let tls : List Entry = tls_entries g e.loads areas e.tls in
     let fits : EntriesFit (load_entries g e.loads areas ++ other_entries e areas) =

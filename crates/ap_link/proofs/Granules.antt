@@ -7,18 +7,11 @@ use Rattle.ap_elf.specs.declared.machine.Machine.TheVariants.{X64, A64}
 use Rattle.ap_elf.specs.Machines.{granule_of}
 use Rattle.ap_elf.specs.Machines.{IsPage}
 
-pub granule-is : (m : Machine) → IsGranule (granule_of m)
-granule-is X64 = inl refl
-granule-is A64 = inr refl
-
 pub granule-positive : (g : ℕ) → IsGranule g → 1 ≤ g
 granule-positive g is = grind arith
 
 pub granule-fits : (g : ℕ) → IsGranule g → g ≤ 16384
 granule-fits g is = grind arith
-
-pub ceil-least : (a g : ℕ) → IsGranule g → a ≤ ceil_of a g
-ceil-least a g is = grind (arith, nat_tests)
 
 -- an address by its granule and its place there
 pub floor-sum : (a g : ℕ) → IsGranule g → (floor_of a g + a % g ≡ a) × (a % g < 16384)

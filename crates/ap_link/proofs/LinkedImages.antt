@@ -27,17 +27,15 @@ use Rattle.ap_script.specs.Tables.{load_entries, table_of, embedded_header, embe
 use Rattle.ap_link.specs.Same.{Same, nothing_else}
 use Rattle.ap_link.specs.LinkedIn.{IsHeld, HoldAll, IsLinkedIn}
 use Rattle.ap_link.specs.Images.{ElfIsSame, ApeIsSame}
-use Rattle.ap_link.proofs.Granules.{IsPaged, granule-is, paged}
+use Rattle.ap_link.proofs.Granules.{IsPaged, paged}
 use Rattle.ap_link.proofs.Shown.{ShowAll, same-image}
 use Rattle.ap_link.proofs.Rows.{table-loads, table-still, length-table_of, length-loads}
 use Rattle.ap_link.proofs.Passing.{loads-pass, regions-show}
 use Rattle.ap_link.proofs.Holding.{length-over, over-holds}
-use Rattle.ap_elf.proofs.ReadBack.{header_of-bytes, length-header_bytes, entries_from-holds}
+use Rattle.ap_elf.proofs.ReadBack.{header_of-bytes, entries_from-holds}
 use Rattle.ap_link.proofs.Fitting.{table-fits, header-fits, count-few}
-
-pub length-embedded : (e : Taken) (at : ℕ) → length (embedded_bytes e at) ≡ 64
-unfolding embedded_header
-length-embedded e at = length-header_bytes (embedded_header e at) refl
+use Rattle.ap_layout.proofs.Rounded.{granule_of-is}
+use Rattle.ap_script.proofs.ScriptParts.{length-embedded}
 
 phoff-is : (e : Taken) (at : ℕ) → (embedded_header e at).e_phoff ≡ at
 unfolding embedded_header
@@ -119,7 +117,7 @@ reading-passes e byte areas at page file paging meets held long fits =
     none-append (header_rules (number_of e.machine) len (embedded_header e at)) (dynamic_rules 1 rows ++ last (loads_in rows)) (header-passes e at len meets long fits)
     ∙ none-append (dynamic_rules 1 rows) (last (loads_in rows)) (table-still e areas)
     ∙ ap (λ (l : List Entry). first_fault (last l)) (table-loads e areas e.size meets.loads)
-    ∙ none-append (loads_rules page len 1 0 loads) ((nat_lt 0 (length loads), refusal NoLoad 0 0) ∷ []) (loads-pass page g e.size 0 0 1 byte file e.loads areas (granule-is e.machine) paging (omega arith) meets.loads held)
+    ∙ none-append (loads_rules page len 1 0 loads) ((nat_lt 0 (length loads), refusal NoLoad 0 0) ∷ []) (loads-pass page g e.size 0 0 1 byte file e.loads areas (granule_of-is e.machine) paging (omega arith) meets.loads held)
     ∙ rw any refl
 
 -- the reading by the embedded header and the table, whose cells show a file's bytes
@@ -128,7 +126,7 @@ pub same-read : (e : Taken) (entries : List Entry) (byte : ℕ → ℕ) (areas :
     → Same (granule_of e.machine) byte (loads_in entries) e.entry nothing_else (elf_reading_by (number_of e.machine) page (length file) (embedded_header e at) (table_of e areas) (bytes_in file))
 same-read e entries byte areas at page file is meets loads held long fits =
     let g : ℕ = granule_of e.machine in
-    let granule : IsGranule g = granule-is e.machine in
+    let granule : IsGranule g = granule_of-is e.machine in
     let paging : IsPaged page g = paged e.machine page is in
     let len : ℕ = length file in
     let rows : List Entry = table_of e areas in

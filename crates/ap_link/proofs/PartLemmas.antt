@@ -1,14 +1,9 @@
 -- The parts of an input that are copied one behind the other.
-use Rattle.std.proofs.Common.{◌≡◌, ℕ, ◌+◌, ◌-◌, ◌≤◌, List, ◌∷◌, ◌++◌, sym, ap, ◌∙◌, arith, zero, suc}
+use Rattle.std.proofs.Common.{◌≡◌, ℕ, ◌+◌, ◌-◌, ◌≤◌, List, ◌++◌, sym, ap, ◌∙◌, arith}
 use Rattle.ap_fields.specs.Bytes.{listed}
 use Rattle.ap_fields.specs.Readings.{bytes_in}
 use Rattle.ap_link.specs.Sources.{part_of}
-
-listed-append : (f : ℕ → ℕ) (at n k : ℕ) → listed f at (n + k) ≡ listed f at n ++ listed f (at + n) k
-listed-append f at zero k = ap (λ i. listed f at i) (let e : zero + k ≡ k = omega arith in e) ∙ ap (λ i. listed f i k) (let e : at ≡ at + zero = omega arith in e)
-listed-append f at (suc n) k =
-    ap (λ i. listed f at i) (let e : suc n + k ≡ suc (n + k) = omega arith in e)
-    ∙ ap (λ r. f at ∷ r) (listed-append f (suc at) n k ∙ ap (λ i. listed f (suc at) n ++ listed f i k) (let e : suc at + n ≡ at + suc n = omega arith in e))
+use Rattle.ap_image.proofs.RegionBytes.{listed-append}
 
 -- a part, and the bytes behind it
 pub part-more : (b : List ℕ) (from done size : ℕ) → part_of from done b ++ part_of (from + done) size b ≡ part_of from (done + size) b

@@ -16,10 +16,11 @@ use Rattle.ap_layout.specs.declared.layout.Area.{Area}
 use Rattle.ap_layout.specs.Areas.{content_length}
 use Rattle.ap_script.specs.Tables.{load_entry, load_entries}
 use Rattle.ap_link.specs.LinkedIn.{IsHeld, HoldAll}
-use Rattle.ap_link.proofs.Granules.{IsPaged, ceil-least, floor-sum, mod-on}
+use Rattle.ap_link.proofs.Granules.{IsPaged, floor-sum, mod-on}
 use Rattle.ap_link.proofs.Contents.{content-room, content-whole, length-content}
 use Rattle.ap_link.specs.Same.{nothing_else}
 use Rattle.ap_link.proofs.Shown.{IsBackedBy, ShowAll, backed-shows}
+use Rattle.ap_fields.proofs.Granules.{ceil_of-least}
 
 -- an area lies in the file
 pub area-fits : (g : ℕ) (byte : ℕ → ℕ) (file : List ℕ) (p : Load) (x : Area) → IsGranule g → IsHeld g byte file p x → 0 < p.filesz → x.file + content_length g p ≤ length file
@@ -84,7 +85,7 @@ region-backed page g size low byte file p x is paging load held =
     let s1 : start + p.vaddr % page ≡ p.vaddr = (floor-sum p.vaddr page paging.size).0 in
     let s2 : floor_of p.vaddr g + p.vaddr % g ≡ p.vaddr = (floor-sum p.vaddr g is).0 in
     let lower : floor_of p.vaddr g ≤ start = paging.floors p.vaddr in
-    let above : p.vaddr + p.memsz ≤ stop = ceil-least (p.vaddr + p.memsz) page paging.size in
+    let above : p.vaddr + p.memsz ≤ stop = ceil_of-least (p.vaddr + p.memsz) page paging.size in
     let top : stop ≤ high = paging.ceils (p.vaddr + p.memsz) in
     let whole : p.filesz ≡ p.memsz → high ≤ floor_of p.vaddr g + content_length g p = λ e. (let c = content-whole g p is e in omega arith) in
     let n = backed-numbers start stop (p.vaddr % page) (p.vaddr % g) (floor_of p.vaddr g) (content_length g p) p.vaddr p.filesz p.memsz x.file (length file) high _ _ s1 s2 lower above top load.sizes whole

@@ -11,13 +11,14 @@ use Rattle.ap_check.specs.Inputs.{AreLoads}
 use Rattle.ap_layout.specs.declared.layout.Area.{Area}
 use Rattle.ap_layout.specs.Areas.{content_length, content_of, no_area, end_of, area_of, after, areas_of, end_from, is_new}
 use Rattle.ap_layout.specs.Positions.{no_sharing}
-use Rattle.ap_layout.proofs.Rounded.{ceil-least, ceil-even, content-bounds, area-end}
+use Rattle.ap_layout.proofs.Rounded.{ceil-even, content-bounds, area-end}
 use Rattle.ap_layout.proofs.Walked.{room_of}
 use Rattle.ap_link.specs.Linked.{areas_text}
 use Rattle.ap_link.specs.LinkedIn.{IsHeld, HoldAll}
 use Rattle.ap_link.specs.Nexts.{end_behind, AreNext}
 use Rattle.ap_link.proofs.AreaTexts.{text-new, text-old}
 use Rattle.ap_link.proofs.Contents.{length-content}
+use Rattle.ap_fields.proofs.Granules.{ceil_of-least}
 
 -- ---- the area of a load, where nothing is shared
 
@@ -61,7 +62,7 @@ area-cases g c p is =
     put some =
         let same : area_of None g p c ≡ made = cond-false (eqb p.filesz 0) no_area made some in
         let more : 0 < p.filesz = grind (arith, nat_tests) in
-        let low : c ≤ ceil_of c g = ceil-least c g is in
+        let low : c ≤ ceil_of c g = ceil_of-least c g is in
         let long = (content-bounds g p is).0 in
         let test : is_new c made ≡ true = grind (arith, nat_tests) in
         record {

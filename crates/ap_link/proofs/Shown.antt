@@ -17,8 +17,9 @@ use Rattle.ap_image.specs.Plans.{end_of, region_byte, cell_in}
 use Rattle.ap_layout.specs.declared.layout.Area.{Area}
 use Rattle.ap_layout.specs.Areas.{content_of, content_length}
 use Rattle.ap_link.specs.Same.{IsBeside, HasImage}
-use Rattle.ap_link.proofs.Granules.{ceil-least, floor-sum}
+use Rattle.ap_link.proofs.Granules.{floor-sum}
 use Rattle.ap_link.proofs.Contents.{content-at, length-content}
+use Rattle.ap_fields.proofs.Granules.{ceil_of-least}
 
 -- what a load has at an address: its byte in the input's file, or 0
 abbrev pub load_byte : (ℕ → ℕ) → Load → ℕ → ℕ
@@ -125,7 +126,7 @@ none-below g size byte low (p ∷ entries) a is order below =
     let first = order.0.order in
     let sum = (floor-sum p.vaddr g is).0 in
     let off : input.has_address p a ≡ false = grind (arith, nat_tests) in
-    let up = ceil-least (p.vaddr + p.memsz) g is in
+    let up = ceil_of-least (p.vaddr + p.memsz) g is in
     cond-false (input.has_address p a) (Some (input.load_byte byte p a, permissions_of p)) (input_cell byte entries a) off
     ∙ none-below g size byte (ceil_of (p.vaddr + p.memsz) g) entries a is order.1 (omega arith)
 
