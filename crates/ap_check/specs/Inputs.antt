@@ -181,3 +181,8 @@ symbols_by b (At t) = symbols_at b t
 -- what is taken of an input, by its bytes
 unfoldable pub input_of : ℕ → List ℕ → Taken
 input_of n b = taken_of n (length b) (header_of b) (entries_of b) (symbols_by b (located_of b))
+
+-- one or two inputs as a list
+abbrev pub inputs_of : Taken → Option Taken → List Taken
+inputs_of first None = first ∷ []
+inputs_of first (Some second) = first ∷ second ∷ []

@@ -3,4 +3,5 @@ pub mod Inputs
 pub mod Rules
 pub mod Bare
 pub mod Ends
+pub mod Windows
 pub mod Both

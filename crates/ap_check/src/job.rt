@@ -1,10 +1,14 @@
 // What is to be linked.
-ghost use Rattle.std.specs.Prelude.{◌≡◌, ◌≢◌, IfSome, option_copied};
+ghost use Rattle.std.specs.Prelude.{◌≡◌, ◌≢◌, true, IfSome, IsSomeAnd, option_copied};
 ghost use Rattle.std.proofs.Props.{props};
-ghost use Rattle.ap_check.specs.Options.{AreTaken};
+ghost use Rattle.ap_check.specs.Options.{AreTaken, for_windows};
+ghost use Rattle.ap_check.specs.Inputs.{inputs_of};
+ghost use Rattle.ap_check.specs.Windows as spec;
+ghost use Rattle.ap_check.specs.Windows.{x64_of, IsReady};
 
 use crate::input::Input;
 use crate::options::Options;
+use ap_elf::Machine;
 
 /// One or two inputs for different machines, and what is asked of their linked file.
 #[derive(Drop)]
@@ -18,4 +22,27 @@ pub struct Job<'a> {
     pub ghost first_number: { first.now.number ≡ 1 },
     pub ghost second_number: { IfSome (option_copied second) (λ i. i.number ≡ 2) } by { Prim.hlevel props },
     pub ghost machines: { IfSome (option_copied second) (λ i. first.now.machine ≢ i.machine) } by { Prim.hlevel props },
+    pub ghost windows: { for_windows options ≡ true → IsSomeAnd (x64_of (inputs_of first.now (option_copied second))) (IsReady base) } by { Prim.hlevel props },
+}
+
+impl<'a> Job<'a> {
+    /// The input for x86-64, if there is one.
+    pub fn x64(&self) -> Option<&'a Input>
+        ensures { option_copied result
+            ≡ x64_of (inputs_of self.now.first.now (option_copied self.now.second)) }
+    {
+        if is_x64(self.first) {
+            return Some(self.first);
+        }
+        match self.second {
+            Some(second) if is_x64(second) => Some(second),
+            _ => None,
+        }
+    }
+}
+
+fn is_x64(input: &Input) -> bool
+    ensures { result ≡ spec.is_x64 input.now.machine }
+{
+    input.machine == Machine::X64
 }

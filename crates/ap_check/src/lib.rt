@@ -14,6 +14,7 @@ mod loads; // rules 14 to 18: each load
 mod span; // rules 19 and 20: all loads together
 mod tls; // rule 21: the template of thread-local storage
 mod named; // the symbols that the linker looks for
+mod windows; // rules 24 to 28: what Windows asks
 mod both; // rule 23: two inputs together
 mod input; // what is taken of an input
 mod load; // its loads
@@ -36,3 +37,4 @@ pub use load::{Load, taken_loads};
 pub use options::{Options, Systems};
 pub use size::check_size;
 pub use symbols::Symbols;
+pub use windows::{BASE_GRANULE, Imports, image_base, import_ranges};

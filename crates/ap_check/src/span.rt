@@ -2,9 +2,9 @@
 ghost use Rattle.std.specs.Prelude.{◌≡◌, ◌<◌, ◌&&◌, length};
 ghost use Rattle.ap_fields.specs.Granules.{IsGranule};
 ghost use Rattle.ap_check.specs.Rules.{Checks, span_rules, entry_rules};
-ghost use Rattle.ap_check.specs.Inputs.{last_stop, bytes_of_loads, has_address, is_executable};
+ghost use Rattle.ap_check.specs.Inputs.{last_stop, bytes_of_loads, can_start, has_address, is_executable};
 
-use crate::fault::{Fault, broken};
+use crate::fault::{Fault, broken, demand};
 use crate::load::Load;
 use crate::loads::Extent;
 use ap_fields::floor_to;
@@ -35,15 +35,22 @@ pub fn check_span(loads: &[Load], extent: Extent, granule: u64, number: u8) -> R
 pub fn check_entry(loads: &[Load], entry: u64, number: u8) -> Result<(), Fault>
     ensures { Checks result (entry_rules number entry loads.now) }
 {
-    for p in loads {
-        if can_start(p, entry) {
-            return Ok(());
-        }
-    }
-    Err(broken(number, 20, 0, entry))
+    demand(can_start_in(loads, entry), broken(number, 20, 0, entry))
 }
 
-fn can_start(p: &Load, entry: u64) -> bool
+/// Whether an address is one of a load that may be executed.
+pub fn can_start_in(loads: &[Load], entry: u64) -> bool
+    ensures { result ≡ can_start entry loads.now }
+{
+    for p in loads {
+        if starts(p, entry) {
+            return true;
+        }
+    }
+    false
+}
+
+fn starts(p: &Load, entry: u64) -> bool
     ensures { result ≡ (has_address p.now entry && is_executable p.now) }
 {
     p.vaddr <= entry && entry - p.vaddr < p.memsz && p.perms.bits() & 1 != 0

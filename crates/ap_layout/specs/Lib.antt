@@ -1,3 +1,4 @@
 pub mod Areas
+pub mod Headers
 pub mod Positions
 pub mod Apart

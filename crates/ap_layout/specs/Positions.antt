@@ -7,8 +7,10 @@ use Rattle.ap_elf.specs.declared.constants.TheConstants.{PHDR_SIZE}
 use Rattle.ap_elf.specs.Machines.{granule_of}
 use Rattle.ap_check.specs.declared.options.Options.{Options}
 use Rattle.ap_check.specs.Inputs.{Taken}
+use Rattle.ap_check.specs.Windows.{AreReady}
 use Rattle.ap_layout.specs.declared.layout.Area.{Area}
 use Rattle.ap_layout.specs.declared.sizes.TheConstants.{TABLES, MOST_BODY, FILE_TOP}
+use Rattle.ap_layout.specs.Headers.{pe_length}
 use Rattle.ap_layout.specs.Areas.{areas_of, end_from, new_areas, ServeAll}
 
 -- where the areas of each input, the program header tables, the Mach-O header and the ends stand
@@ -20,10 +22,9 @@ pub record Positions : Type 0 where
   pub body_end : ℕ
   pub total : ℕ
 
--- where the first program header table stands: behind the here-document's opening and ten zeros, and behind what formats of the
--- chosen systems have in front of it, which is nothing so far
+-- where the first program header table stands: behind the here-document's opening, ten zeros and the PE headers
 abbrev pub tables_start : Options → List Taken → ℕ
-tables_start options inputs = TABLES
+tables_start options inputs = TABLES + pe_length options inputs
 
 -- where the Mach-O header stands in the block's second half, and its length: there is none so far
 abbrev pub mach_start : Options → List Taken → ℕ
@@ -110,9 +111,11 @@ abbrev pub AreTables : ℕ → List PlacedInput → ℕ → Type 0
 AreTables at [] end = end ≡ at
 AreTables at (p ∷ ps) end = (p.table ≡ at) × AreTables (at + table_length p.input) ps end
 
--- What writers and readings may suppose of positions: each input has its places; every load is served by an area that is empty
--- or one of the new ones, of which no two overlap; the tables follow each other, and end below the window.
+-- What writers and readings may suppose of inputs and their positions: where Windows was chosen there is an input for it; each
+-- input has its places; every load is served by an area that is empty or one of the new ones, of which no two overlap; the tables
+-- follow each other, and end below the window.
 pub record Fits (options : Options) (inputs : List Taken) (l : Positions) : Type 0 where
+  pub windows : AreReady options inputs
   pub all : only_inputs (placed_inputs inputs l) ≡ inputs
   pub areas : AreServed (new_areas BLOCK (all_areas (placed_inputs inputs l))) (placed_inputs inputs l)
   pub total : l.total ≡ end_from BLOCK (all_areas (placed_inputs inputs l))
@@ -120,7 +123,3 @@ pub record Fits (options : Options) (inputs : List Taken) (l : Positions) : Type
   pub tables : AreTables (tables_start options inputs) (placed_inputs inputs l) l.body_end
   pub body : l.body_end ≤ MOST_BODY
   pub mach : l.mach_at + l.mach_len ≤ BLOCK
-
-abbrev pub inputs_of : Taken → Option Taken → List Taken
-inputs_of e None = e ∷ []
-inputs_of e (Some f) = e ∷ f ∷ []

@@ -3,11 +3,16 @@
 
 mod position; // the positions of all parts
 mod areas; // the areas of one input
+mod headers; // how long the PE headers are
 mod tables; // the program header tables
 mod layout; // layouts, and areas
 mod sizes; // how large parts may be
 
+pub use headers::pe_length;
 pub use layout::{Area, Layout};
 pub use position::{areas_are_apart, place};
-pub use sizes::{FILE_TOP, MOST_BODY, MOST_ENTRIES, MOST_TABLE, OPENING, TABLES};
+pub use sizes::{
+    FILE_TOP, MOST_BODY, MOST_ENTRIES, MOST_HEADERS, MOST_SECTIONS, MOST_TABLE, OPENING,
+    PE_HEADERS, SECTION_HEADER, TABLES,
+};
 pub use tables::entry_count;

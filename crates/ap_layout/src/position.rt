@@ -2,9 +2,12 @@
 ghost use Rattle.std.specs.Prelude.{◌≡◌, None, Some, option_copied};
 ghost use Rattle.ap_fields.specs.declared.sizes.TheConstants.{BLOCK};
 ghost use Rattle.ap_layout.specs.Apart.{AllApart, Ascend, FittingIsApart, first_areas};
-ghost use Rattle.ap_layout.specs.Positions.{positions_of, inputs_of, joined, Fits};
+ghost use Rattle.ap_check.specs.Inputs.{inputs_of};
+ghost use Rattle.ap_check.specs.Windows.{AreReady};
+ghost use Rattle.ap_layout.specs.Positions.{positions_of, tables_start, joined, Fits};
 
 use crate::areas::areas_from;
+use crate::headers::pe_length;
 use crate::layout::Layout;
 use crate::sizes::TABLES;
 use crate::tables::table_length;
@@ -23,9 +26,10 @@ pub fn place(job: &Job<'_>) -> Layout
     ensures apart { AllApart (joined result.areas) }
     ensures ascend { Ascend BLOCK (first_areas result.areas) }
 {
+    let start = TABLES + pe_length(job);
     match job.second {
-        None => place_one(job),
-        Some(second) => place_two(job, second),
+        None => place_one(job, start),
+        Some(second) => place_two(job, second, start),
     }
 }
 
@@ -34,32 +38,39 @@ pub fn areas_are_apart()
     ensures { FittingIsApart }
 {}
 
-fn place_one(job: &Job<'_>) -> Layout
+// The positions of the first input alone, whose program header table stands at `start`.
+fn place_one(job: &Job<'_>, start: u32) -> Layout
+    requires start { start ≡ tables_start job.now.options (inputs_of job.now.first.now None) }
+    requires ready { AreReady job.now.options (inputs_of job.now.first.now None) }
     ensures positions { result ≡ positions_of job.now.options job.now.first.now None }
     ensures fits { Fits job.now.options (inputs_of job.now.first.now None) result }
 {
     let placed = areas_from(job.first, BLOCK as u64);
     let mut tables = ArrayVec::new();
-    tables.push(TABLES);
+    tables.push(start);
     Layout {
         areas: [placed.areas, ArrayVec::new()],
         tables,
         mach_at: 0,
         mach_len: 0,
-        body_end: TABLES + table_length(job.first),
+        body_end: start + table_length(job.first),
         total: placed.end,
     }
 }
 
-fn place_two(job: &Job<'_>, second: &Input) -> Layout
+// The positions of both inputs.
+fn place_two(job: &Job<'_>, second: &Input, start: u32) -> Layout
+    requires start { start
+        ≡ tables_start job.now.options (inputs_of job.now.first.now (Some second.now)) }
+    requires ready { AreReady job.now.options (inputs_of job.now.first.now (Some second.now)) }
     ensures positions { result ≡ positions_of job.now.options job.now.first.now (Some second.now) }
     ensures fits { Fits job.now.options (inputs_of job.now.first.now (Some second.now)) result }
 {
     let placed = areas_from(job.first, BLOCK as u64);
     let behind = areas_from(second, placed.end);
-    let table = TABLES + table_length(job.first);
+    let table = start + table_length(job.first);
     let mut tables = ArrayVec::new();
-    tables.push(TABLES);
+    tables.push(start);
     tables.push(table);
     Layout {
         areas: [placed.areas, behind.areas],

@@ -11,11 +11,24 @@ pub const MOST_TABLE: u32 = (PHDR_SIZE * MOST_ENTRIES) as u32;
 /// The bytes of the here-document's opening.
 pub const OPENING: u32 = 86;
 
-/// Where the first program header table stands: behind the here-document's opening and ten zeros.
+/// Where the PE headers stand, or the first program header table without them: behind the here-document's opening and ten
+/// zeros.
 pub const TABLES: u32 = OPENING + 10;
 
-/// Where the here-document's body ends at the latest: behind the tables of two inputs.
-pub const MOST_BODY: u32 = TABLES + 2 * MOST_TABLE;
+/// The bytes of the PE signature, the COFF header and the optional header with its 16 directories (PE/COFF).
+pub const PE_HEADERS: u32 = 4 + 20 + 240;
+
+/// The bytes of a section header (PE/COFF, "Section Table").
+pub const SECTION_HEADER: u32 = 40;
+
+/// The most sections of an input: its loads', and one for the gap in front of each.
+pub const MOST_SECTIONS: usize = 2 * MOST_LOADS;
+
+/// The most bytes of the PE headers.
+pub const MOST_HEADERS: u32 = PE_HEADERS + SECTION_HEADER * MOST_SECTIONS as u32;
+
+/// Where the here-document's body ends at the latest: behind the PE headers and the tables of two inputs.
+pub const MOST_BODY: u32 = TABLES + MOST_HEADERS + 2 * MOST_TABLE;
 
 /// The largest granule of a machine.
 pub const MOST_GRANULE: u64 = 1 << 14;

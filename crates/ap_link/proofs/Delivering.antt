@@ -8,11 +8,11 @@ use Rattle.ap_files.specs.declared.failure.FileFault.TheVariants.{Read, Write}
 use Rattle.ap_files.proofs.ReadLemmas.{told_as}
 use Rattle.ap_check.specs.declared.fault.Fault.{Fault}
 use Rattle.ap_check.specs.declared.options.Options.{Options}
-use Rattle.ap_check.specs.Inputs.{Taken, input_of}
+use Rattle.ap_check.specs.Inputs.{Taken, input_of, inputs_of}
 use Rattle.ap_check.specs.Both.{pair_rules, first_fault_of_both, IsTakenOf, AreTakenOf}
 use Rattle.ap_check.proofs.Laws.{input_meets}
 use Rattle.ap_check.proofs.Pairs.{pair-says}
-use Rattle.ap_layout.specs.Positions.{Positions, positions_of, inputs_of}
+use Rattle.ap_layout.specs.Positions.{Positions, positions_of}
 use Rattle.ap_script.specs.Blocks.{block_of}
 use Rattle.ap_link.specs.declared.end.LinkEnd.{LinkEnd}
 use Rattle.ap_link.specs.declared.end.LinkEnd.TheVariants as end

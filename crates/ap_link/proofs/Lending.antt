@@ -6,10 +6,10 @@ use Rattle.ap_files.specs.Files.{FileMap}
 use Rattle.ap_claims.specs.Blocks.{BlockState}
 use Rattle.ap_claims.specs.Files.{IsFilled}
 use Rattle.ap_check.specs.declared.options.Options.{Options}
-use Rattle.ap_check.specs.Inputs.{Taken, input_of}
+use Rattle.ap_check.specs.Inputs.{Taken, input_of, inputs_of}
 use Rattle.ap_check.specs.Both.{pair_rules, first_fault_of_both, AreTakenOf}
 use Rattle.ap_check.proofs.Pairs.{pair-says}
-use Rattle.ap_layout.specs.Positions.{positions_of, inputs_of}
+use Rattle.ap_layout.specs.Positions.{positions_of}
 use Rattle.ap_layout.proofs.Fitting.{positions-fit}
 use Rattle.ap_script.specs.Claims.{block_claims}
 use Rattle.ap_files.specs.declared.failure.FileFault.{FileFault}

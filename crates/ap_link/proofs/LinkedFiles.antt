@@ -18,14 +18,14 @@ use Rattle.ap_check.specs.Both.{machines_rules, pair_rules, first_fault_of_both}
 use Rattle.ap_check.proofs.Laws.{input_meets}
 use Rattle.ap_check.proofs.Pairs.{pair-says}
 use Rattle.ap_elf.specs.Machines.{granule_of, number_of}
-use Rattle.ap_check.specs.Inputs.{Taken, Meets, input_of, taken_of, loads_of}
+use Rattle.ap_check.specs.Inputs.{Taken, Meets, input_of, taken_of, loads_of, inputs_of}
 use Rattle.ap_loader.specs.Embedded.{has_magic, taken}
 use Rattle.ap_loader.specs.ApeReading.{as_ape, reading_over, reading_by, ape_reading}
 use Rattle.ap_loader.specs.declared.fault.ApeFault.TheVariants.{NoMagic}
 use Rattle.ap_elf.specs.ElfReading.{elf_reading}
 use Rattle.ap_layout.specs.declared.layout.Area.{Area}
 use Rattle.ap_layout.specs.Areas.{end_from}
-use Rattle.ap_layout.specs.Positions.{Positions, Fits, positions_of, inputs_of, placed_inputs, input_areas, tables_start, table_length}
+use Rattle.ap_layout.specs.Positions.{Positions, Fits, positions_of, placed_inputs, input_areas, tables_start, table_length}
 use Rattle.ap_layout.proofs.Rounded.{granule_of-is}
 use Rattle.ap_layout.proofs.NewAreas.{end-least}
 use Rattle.ap_layout.proofs.Fitting.{positions-fit, table-most}

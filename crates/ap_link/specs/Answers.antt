@@ -9,13 +9,13 @@ use Rattle.ap_elf.specs.ElfReading.{elf_reading}
 use Rattle.ap_check.specs.declared.options.Options.{Options}
 use Rattle.ap_elf.specs.declared.machine.Machine.TheVariants.{X64, A64}
 use Rattle.ap_elf.specs.Machines.{granule_of, number_of}
-use Rattle.ap_check.specs.Inputs.{Taken, input_of}
+use Rattle.ap_check.specs.Inputs.{Taken, input_of, inputs_of}
 use Rattle.ap_check.specs.Both.{first_fault_of_both}
 use Rattle.ap_elf.specs.Machines.{IsPage}
 use Rattle.ap_octal.specs.Embedded.{Opens}
 use Rattle.ap_octal.specs.Statement.{statement_of}
 use Rattle.ap_loader.specs.ApeReading.{ape_reading}
-use Rattle.ap_layout.specs.Positions.{Positions, positions_of, inputs_of, tables_start, table_length}
+use Rattle.ap_layout.specs.Positions.{Positions, positions_of, tables_start, table_length}
 use Rattle.ap_script.specs.Tables.{embedded_bytes}
 use Rattle.ap_script.specs.Blocks.{body_of}
 use Rattle.ap_script.specs.Stands.{HasFreeDelimiter, HasZeros, statement_place, statement_places}

@@ -7,10 +7,10 @@ use Rattle.ap_fields.specs.declared.sizes.TheConstants.{BLOCK}
 use Rattle.ap_check.specs.declared.load.Load.{Load}
 use Rattle.ap_check.specs.declared.options.Options.{Options}
 use Rattle.ap_elf.specs.Machines.{granule_of}
-use Rattle.ap_check.specs.Inputs.{Taken, input_of}
+use Rattle.ap_check.specs.Inputs.{Taken, input_of, inputs_of}
 use Rattle.ap_layout.specs.declared.layout.Area.{Area}
 use Rattle.ap_layout.specs.Areas.{content_of, end_of, end_from, is_new}
-use Rattle.ap_layout.specs.Positions.{input_areas, positions_of, inputs_of}
+use Rattle.ap_layout.specs.Positions.{input_areas, positions_of}
 use Rattle.ap_script.specs.Blocks.{block_of}
 
 -- what stands for areas behind the first c bytes: zeros up to each area that is new, and its content

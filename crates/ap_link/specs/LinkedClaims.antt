@@ -8,10 +8,10 @@ use Rattle.ap_claims.specs.Files.{file_of}
 use Rattle.ap_check.specs.declared.load.Load.{Load}
 use Rattle.ap_check.specs.declared.options.Options.{Options}
 use Rattle.ap_elf.specs.Machines.{granule_of}
-use Rattle.ap_check.specs.Inputs.{Taken, input_of}
+use Rattle.ap_check.specs.Inputs.{Taken, input_of, inputs_of}
 use Rattle.ap_layout.specs.declared.layout.Area.{Area}
 use Rattle.ap_layout.specs.Areas.{content_of}
-use Rattle.ap_layout.specs.Positions.{input_areas, positions_of, inputs_of}
+use Rattle.ap_layout.specs.Positions.{input_areas, positions_of}
 use Rattle.ap_script.specs.Claims.{claim, block_claims}
 use Rattle.ap_link.specs.Linked.{input_end, second_of, taken_second}
 

@@ -21,7 +21,8 @@ use Rattle.ap_elf.specs.Machines.{number_of}
 use Rattle.ap_check.specs.Inputs.{Taken}
 use Rattle.ap_layout.specs.Positions.{PlacedInput, entry_count}
 use Rattle.ap_script.specs.Tables.{embedded_header, embedded_bytes}
-use Rattle.ap_script.specs.Script.{script_start, has_system, or_tests, system_line, dd_line, darwin_x64_lines, darwin_lines, system_lines, machine_start, machine_end, machine_lines, script_end, script_of, is_machine, header_for}
+use Rattle.ap_check.specs.Options.{has_system}
+use Rattle.ap_script.specs.Script.{script_start, or_tests, system_line, dd_line, darwin_x64_lines, darwin_lines, system_lines, machine_start, machine_end, machine_lines, script_end, script_of, is_machine, header_for}
 use Rattle.ap_script.proofs.Quotes.{digit-bare, has_no_quote, no_quote-append}
 use Rattle.ap_script.proofs.Openings.{Marked, marked-append, marked-quiet, marked-statement, Parts, parts-behind, parts-front}
 

@@ -2,8 +2,8 @@
 use Rattle.std.specs.Prelude.{List}
 use Rattle.std.specs.Option.{option_copied}
 use Rattle.ap_check.specs.declared.job.Job.{Job}
-use Rattle.ap_check.specs.Inputs.{Taken}
-use Rattle.ap_layout.specs.Positions.{PlacedInput, inputs_of}
+use Rattle.ap_check.specs.Inputs.{Taken, inputs_of}
+use Rattle.ap_layout.specs.Positions.{PlacedInput}
 use Rattle.ap_script.specs.declared.placement.Placement.{Placement}
 
 abbrev pub job_inputs : Job → List Taken

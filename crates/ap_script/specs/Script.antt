@@ -7,6 +7,7 @@ use Rattle.std.specs.Option.{is_some}
 use Rattle.std.specs.Fmt.{decimal}
 use Rattle.ap_octal.specs.Statement.{statement_of}
 use Rattle.ap_check.specs.declared.options.Systems.{Systems}
+use Rattle.ap_check.specs.Options.{has_system}
 use Rattle.ap_elf.specs.declared.machine.Machine.{Machine}
 use Rattle.ap_elf.specs.declared.machine.Machine.TheVariants.{X64, A64}
 use Rattle.ap_layout.specs.Positions.{PlacedInput}
@@ -17,10 +18,6 @@ unfoldable pub script_start : List ℕ
 script_start =
     codes "if command -v ape >/dev/null 2>&1; then\nexec ape \"$0\" \"$@\"\nfi\n"
     ++ codes "m=$(uname -m)\ns=$(uname -s)\nt=\"${TMPDIR:-/tmp}/ape.$$\"\n"
-
--- whether the system of a bit was chosen
-abbrev pub has_system : Systems → ℕ → Bool
-has_system systems bit = not (bit_and systems.0 bit == 0)
 
 -- the names that `uname -s` answers on the systems that were chosen, of those whose kernels run ELF files
 abbrev pub kernels_of : Systems → List (List ℕ)

@@ -1,6 +1,7 @@
 use Rattle.std.proofs.Common.{◌∙◌, ap}
 use Rattle.std.specs.Option.{option_copied}
-use Rattle.ap_layout.specs.Positions.{Positions, positions_of, inputs_of}
+use Rattle.ap_check.specs.Inputs.{inputs_of}
+use Rattle.ap_layout.specs.Positions.{Positions, positions_of}
 use Rattle.ap_link.specs.Sources.{second_name, second_taken}
 use Rattle.ap_link.proofs.Delivering.{sources-readable, all-ready, links-made, links-unmade, links-refused, positions-as, block-as, pair-as, says-as}
 use Rattle.ap_link.proofs.Filling.{filled-at}
