@@ -6,7 +6,7 @@ use Rattle.ap_fields.specs.Structures.{value_at}
 use Rattle.ap_fields.specs.FirstFault.{Rules, first_fault}
 use Rattle.ap_fields.specs.Readings.{MemoryImage, image_unless, bytes_in}
 use Rattle.ap_fields.proofs.Numbers.{number_at-same}
-use Rattle.ap_fields.proofs.FirstFaults.{none-append, some-append}
+use Rattle.ap_fields.proofs.FirstFaults.{none-append, some-append, append-none}
 use Rattle.ap_pe.specs.declared.types.PeHeaders.{PeHeaders}
 use Rattle.ap_pe.specs.declared.types.PeSection.{PeSection}
 use Rattle.ap_pe.specs.declared.types.FileHeader.{FileHeader}
@@ -183,3 +183,14 @@ reads-alike byte f g len agree =
     (λ none.
     ap (λ (h : PeHeaders). record { entry = h.base + h.entry; cell = pe_cell byte h (sections_in f (headers_of f)) }) (alike.headers none)
     ∙ ap (λ (s : List PeSection). record { entry = (headers_of g).base + (headers_of g).entry; cell = pe_cell byte (headers_of g) s }) (alike.sections none))
+
+align-from : (len magic : ℕ) (h : PeHeaders) → first_fault (optional_rules len magic h) ≡ None → 0 < h.section_align
+align-from len magic h none = grind (arith, nat_tests)
+
+-- headers that aren't refused have an alignment
+pub align-taken : (b : List ℕ) → first_fault (header_rules b) ≡ None → 0 < (headers_of b).section_align
+align-taken b none =
+    let at : ℕ = value_at dos_headers 0 b in
+    let more = append-none (dos_rules (length b) (value_at dos_mark 0 b)) (rules_at b at) none in
+    let last = append-none (file_rules (length b) at (file_header_at b at)) (optional_rules (length b) (value_at optional_magic (at + 24) b) (headers_at b at)) more.1 in
+    align-from (length b) (value_at optional_magic (at + 24) b) (headers_at b at) last.1

@@ -5,7 +5,7 @@ ghost use Rattle.ap_files.specs.Reads.{HasSize, Reads};
 ghost use Rattle.ap_pe.specs.declared.constants.TheConstants.{DOS_SIZE, FILE_HEADER_SIZE, OPTIONAL_LEAST, SECTION_SIZE, MOST_SECTIONS};
 ghost use Rattle.ap_pe.specs.Format.{file_header_at, table_place, sections_in};
 ghost use Rattle.ap_pe.specs.PeReading.{headers_result};
-ghost use Rattle.ap_pe.specs.Stages.{result_at, optional_result};
+ghost use Rattle.ap_pe.specs.Stages.{AreTaken, result_at, optional_result};
 
 use crate::check::refusal;
 use crate::constants::{DOS_SIZE, FILE_HEADER_SIZE, MOST_SECTIONS, OPTIONAL_LEAST, SECTION_SIZE};
@@ -30,8 +30,7 @@ pub fn read_pe_in<F: Files>(
     requires { HasSize (F.state files.old).kept name.now size }
     ensures read { Reads (F.state files.old) (F.state files.new) name.now
         (λ b h. h ≡ headers_result b) result }
-    ensures table { IfOk result (λ r. IfOk r (λ h.
-        (h.count ≤ MOST_SECTIONS) × (table_place h + SECTION_SIZE * h.count ≤ size))) }
+    ensures taken { IfOk result (λ r. IfOk r (λ h. AreTaken size h)) }
 {
     if size < DOS_SIZE as u64 {
         return Ok(Err(refusal(PeCause::Mz, 0, size)));
@@ -55,8 +54,7 @@ fn headers_at_in<F: Files>(
     requires place { at < 2 ^ 32 }
     ensures read { Reads (F.state files.old) (F.state files.new) name.now
         (λ b h. h ≡ result_at b at) result }
-    ensures table { IfOk result (λ r. IfOk r (λ h.
-        (h.count ≤ MOST_SECTIONS) × (table_place h + SECTION_SIZE * h.count ≤ size))) }
+    ensures taken { IfOk result (λ r. IfOk r (λ h. AreTaken size h)) }
 {
     if at + FILE_HEADER_SIZE as u64 > size {
         return Ok(Err(refusal(PeCause::Signature, 0, at)));
@@ -84,8 +82,7 @@ fn optional_in<F: Files>(
     requires few { f.now.count ≤ MOST_SECTIONS }
     ensures read { Reads (F.state files.old) (F.state files.new) name.now
         (λ b h. h ≡ optional_result b at f.now) result }
-    ensures table { IfOk result (λ r. IfOk r (λ h.
-        (h.count ≤ MOST_SECTIONS) × (table_place h + SECTION_SIZE * h.count ≤ size))) }
+    ensures taken { IfOk result (λ r. IfOk r (λ h. AreTaken size h)) }
 {
     let mut part = [0; OPTIONAL_LEAST];
     files.read_at(name, at + FILE_HEADER_SIZE as u64, &mut part)?;
@@ -106,8 +103,7 @@ pub fn sections_in<F: Files>(
     h: &PeHeaders,
 ) -> Result<ArrayVec<PeSection, MOST_SECTIONS>, Failed>
     requires size { HasSize (F.state files.old).kept name.now size }
-    requires table { table_place h.now + SECTION_SIZE * h.now.count ≤ size }
-    requires few { h.now.count ≤ MOST_SECTIONS }
+    requires taken { AreTaken size h.now }
     ensures { Reads (F.state files.old) (F.state files.new) name.now
         (λ b found. found.items ≡ sections_in b h.now) result }
 {

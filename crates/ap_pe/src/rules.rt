@@ -3,6 +3,7 @@ ghost use Rattle.std.specs.Prelude.{◌≡◌, ◌+◌, ◌*◌, ◌%◌, ◌^�
 ghost use Rattle.ap_elf.specs.declared.constants.TheConstants.{ADDRESS_TOP};
 ghost use Rattle.ap_pe.specs.declared.constants.TheConstants.{IMAGE_NT_SIGNATURE, DOS_SIZE, FILE_HEADER_SIZE, OPTIONAL_LEAST, DIRECTORY_SIZE, IMAGE_NUMBEROF_DIRECTORY_ENTRIES, SECTION_SIZE, MOST_SECTIONS};
 ghost use Rattle.ap_pe.specs.Format.{table_place};
+ghost use Rattle.ap_pe.specs.Stages.{AreTaken};
 ghost use Rattle.ap_pe.specs.PeReading.{Checks, dos_rules, file_rules, optional_rules, are_alignments};
 
 use crate::check::{check_rules, refusal};
@@ -70,9 +71,10 @@ fn has_room(size: u64, at: u64, optional: u16) -> bool
 
 /// The rules of the optional header, and of the place of the section headers, in a file of `size` bytes.
 pub fn check_optional(size: u64, magic: u16, h: &PeHeaders) -> Result<(), PeFault>
-    requires { h.now.at < 2 ^ 32 }
+    requires place { h.now.at < 2 ^ 32 }
+    requires few { h.now.count ≤ MOST_SECTIONS }
     ensures rules { Checks result (optional_rules size magic h.now) }
-    ensures table { OnOk result (table_place h.now + SECTION_SIZE * h.now.count ≤ size) }
+    ensures taken { OnOk result (AreTaken size h.now) }
 {
     let table = h.at + FILE_HEADER_SIZE as u64 + h.optional as u64;
     check_rules(&[

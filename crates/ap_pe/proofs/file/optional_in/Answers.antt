@@ -4,9 +4,13 @@ use Rattle.ap_pe.specs.declared.types.PeHeaders.{PeHeaders}
 use Rattle.ap_pe.proofs.Staged.{optional-none, optional-some}
 use Rattle.ap_pe.proofs.file.optional_in.Goals as goal
 
-pub check_optional-requires : goal.check_optional-requires
+pub check_optional-requires-clause-place : goal.check_optional-requires-clause-place
 unfolding Rattle.ap_pe.specs.Format.headers_by
-check_optional-requires g c = let e = ap (λ (h : PeHeaders). h.at) c.headers-h.ensures in omega arith
+check_optional-requires-clause-place g c = let e = ap (λ (h : PeHeaders). h.at) c.headers-h.ensures in omega arith
+
+pub check_optional-requires-clause-few : goal.check_optional-requires-clause-few
+unfolding Rattle.ap_pe.specs.Format.headers_by
+check_optional-requires-clause-few g c = let e = ap (λ (h : PeHeaders). h.count) c.headers-h.ensures in omega arith
 
 pub returns-in-Err-clause-read : goal.returns-in-Err-clause-read
 returns-in-Err-clause-read g c = (
@@ -23,7 +27,3 @@ returns-clause-read g c = (
       optional-none b c.read_at.new.buf c.args.at c.args.size c.le16.result c.args.f.now c.headers-h.result (c.in_ok-read_at.ensures.bytes m b told at) c.headers-h.ensures c.le16.ensures
       (told_of (g.F.Files.state c.args.files.now).kept c.args.name.now m b c.requires.size told at) c.in_default.ensures.rules,
 )
-
-pub returns-clause-table : goal.returns-clause-table
-unfolding Rattle.ap_pe.specs.Format.headers_by
-returns-clause-table g c = let e = ap (λ (h : PeHeaders). h.count) c.headers-h.ensures in (omega arith, c.in_default.ensures.table)
