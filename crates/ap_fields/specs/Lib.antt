@@ -3,3 +3,4 @@ pub mod Bytes
 pub mod Granules
 pub mod FirstFault
 pub mod Readings
+pub mod Structures

@@ -1,0 +1,4 @@
+pub mod SectionTables
+pub mod PartReads
+pub mod Staged
+pub mod Framed

@@ -1,0 +1,4 @@
+pub mod Format
+pub mod PeReading
+pub mod Stages
+pub mod Looks

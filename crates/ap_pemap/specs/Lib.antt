@@ -1,0 +1,2 @@
+pub mod PePlans
+pub mod Laws

@@ -1,0 +1,11 @@
+//! The reading of PE32+ files for x86-64: the plan of memory by which such a file is mapped, or why it is refused.
+#![tactic(auto)]
+
+mod reading; // the reading, by a file's bytes
+mod file; // the same, by its name
+mod plan; // the plan of headers and sections
+mod sections; // what is asked of the sections, and their regions
+mod extents; // how far headers and sections reach
+
+pub use ap_pe::{PeCause, PeFault};
+pub use reading::PeReading;
