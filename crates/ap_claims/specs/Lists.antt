@@ -10,6 +10,9 @@ pub record Claim : Type 0 where
   pub at : ℕ
   pub bytes : List ℕ
 
+abbrev pub claim : Owner → ℕ → List ℕ → Claim
+claim owner at bytes = record { owner = owner; at = at; bytes = bytes }
+
 -- the first place behind a claim
 abbrev pub end_of : Claim → ℕ
 end_of c = c.at + length c.bytes

@@ -1,5 +1,5 @@
 -- Positions fit, and what follows of that.
-use Rattle.std.proofs.Common.{◌≡◌, ◌⊎◌, inl, inr, ℕ, ◌+◌, ◌<◌, ◌≤◌, eqb, List, [], ◌∷◌, ◌++◌, refl, sym, ap, ◌∙◌, subst, arith, append-nil, Option, Some, None, IfSome}
+use Rattle.std.proofs.Common.{◌≡◌, ◌⊎◌, inl, inr, ℕ, suc, ◌+◌, ◌<◌, ◌≤◌, eqb, List, [], ◌∷◌, ◌++◌, length, refl, sym, ap, ◌∙◌, subst, arith, append-nil, Option, Some, None, IfSome}
 use Rattle.std.proofs.lemmas.Bool.{cases_Bool}
 use Rattle.std.proofs.lemmas.List.Elements.{All-nil, All-cons}
 use Rattle.std.proofs.lemmas.Bool.Decides.{nat_tests}
@@ -116,6 +116,13 @@ fits-two options e f ready m n =
 pub positions-fit : (options : Options) (e : Taken) (o : Option Taken) → AreReady options (inputs_of e o) → Meets e → IfSome o (λ f. Meets f) → Fits options (inputs_of e o) (positions_of options e o)
 positions-fit options e None ready m n = fits-one options e ready m
 positions-fit options e (Some f) ready m n = fits-two options e f ready m n
+
+-- as many areas as loads
+pub serve-same : (g : ℕ) (news : List Area) (loads : List Load) (areas : List Area) → ServeAll g news loads areas → length areas ≡ length loads
+serve-same g news [] [] h = refl
+serve-same g news [] (a ∷ areas) h = absurd h
+serve-same g news (p ∷ loads) [] h = absurd h
+serve-same g news (p ∷ loads) (a ∷ areas) h = ap (λ n. suc n) (serve-same g news loads areas h.1)
 
 -- an area that isn't empty and serves one of some loads is new
 served-new : (g : ℕ) (news : List Area) (loads : List Load) (areas : List Area) (a : Area) → ServeAll g news loads areas → Among a areas → 0 < a.len → Among a news

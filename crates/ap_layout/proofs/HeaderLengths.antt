@@ -18,7 +18,7 @@ either-most true = omega arith
 either-most false = omega arith
 
 -- two sections a load
-count-most : (g end : ℕ) (loads : List Load) → section_count g end loads ≤ 2 * length loads
+pub count-most : (g end : ℕ) (loads : List Load) → section_count g end loads ≤ 2 * length loads
 count-most g end [] = omega arith
 count-most g end (p ∷ loads) =
     let one = either-most (nat_lt end (floor_of p.vaddr g)) in

@@ -2,3 +2,4 @@ pub mod Areas
 pub mod Headers
 pub mod Positions
 pub mod Apart
+pub mod Stacks

@@ -6,6 +6,7 @@ mod areas; // the areas of one input
 mod headers; // how long the PE headers are
 mod tables; // the program header tables
 mod layout; // layouts, and areas
+mod stack; // the stack that an input asks for
 mod sizes; // how large parts may be
 
 pub use headers::pe_length;
@@ -15,4 +16,5 @@ pub use sizes::{
     FILE_TOP, MOST_BODY, MOST_ENTRIES, MOST_HEADERS, MOST_SECTIONS, MOST_TABLE, OPENING,
     PE_HEADERS, SECTION_HEADER, TABLES,
 };
+pub use stack::stack_size;
 pub use tables::entry_count;

@@ -9,7 +9,7 @@ use Rattle.ap_fields.specs.Readings.{bytes_in}
 use Rattle.ap_fields.specs.declared.sizes.TheConstants.{BLOCK}
 use Rattle.ap_claims.specs.declared.owner.Owner.TheVariants as owner
 use Rattle.ap_claims.specs.Blocks.{BlockState}
-use Rattle.ap_claims.specs.Lists.{Claim, Among}
+use Rattle.ap_claims.specs.Lists.{Claim, Among, claim}
 use Rattle.ap_claims.specs.Files.{IsFile, IsFilled, owners_at}
 use Rattle.ap_claims.proofs.OneFile.{files-one}
 use Rattle.ap_claims.proofs.Growing.{IsFrom, no-text, front-claim, front-zeros, joined-file, among-either, owners-before}
@@ -21,7 +21,7 @@ use Rattle.ap_layout.specs.declared.layout.Area.{Area}
 use Rattle.ap_layout.specs.Areas.{content_of, end_of, area_of, areas_of, end_from, is_new}
 use Rattle.ap_layout.specs.Positions.{input_areas, Positions, Fits, no_sharing}
 use Rattle.ap_layout.proofs.Rounded.{granule_of-is}
-use Rattle.ap_script.specs.Claims.{claim, block_claims}
+use Rattle.ap_script.specs.Claims.{block_claims}
 use Rattle.ap_script.specs.Blocks.{block_of}
 use Rattle.ap_script.proofs.Claimed.{block-claimed}
 use Rattle.ap_script.proofs.BlockParts.{length-block}

@@ -3,7 +3,7 @@ use Rattle.std.specs.Prelude.{ℕ, ◌==◌, if◌then◌else◌, List, [], ◌�
 use Rattle.ap_fields.specs.Readings.{bytes_in}
 use Rattle.ap_fields.specs.declared.sizes.TheConstants.{BLOCK}
 use Rattle.ap_claims.specs.declared.owner.Owner.TheVariants as owner
-use Rattle.ap_claims.specs.Lists.{Claim}
+use Rattle.ap_claims.specs.Lists.{Claim, claim}
 use Rattle.ap_claims.specs.Files.{file_of}
 use Rattle.ap_check.specs.declared.load.Load.{Load}
 use Rattle.ap_check.specs.declared.options.Options.{Options}
@@ -12,7 +12,7 @@ use Rattle.ap_check.specs.Inputs.{Taken, input_of, inputs_of}
 use Rattle.ap_layout.specs.declared.layout.Area.{Area}
 use Rattle.ap_layout.specs.Areas.{content_of}
 use Rattle.ap_layout.specs.Positions.{input_areas, positions_of}
-use Rattle.ap_script.specs.Claims.{claim, block_claims}
+use Rattle.ap_script.specs.Claims.{block_claims}
 use Rattle.ap_link.specs.Linked.{input_end, second_of, taken_second}
 
 -- the content of each load whose area isn't empty

@@ -3,7 +3,7 @@ use Rattle.std.proofs.Common.{◌≡◌, inl, inr, ℕ, ◌+◌, ◌-◌, List, 
 use Rattle.ap_fields.specs.declared.sizes.TheConstants.{BLOCK, WINDOW}
 use Rattle.ap_fields.specs.Bytes.{zeros}
 use Rattle.ap_claims.specs.declared.owner.Owner.TheVariants.{Shell, Ape, Elf}
-use Rattle.ap_claims.specs.Lists.{Claim, Among}
+use Rattle.ap_claims.specs.Lists.{Claim, Among, claim}
 use Rattle.ap_claims.specs.Files.{IsFile}
 use Rattle.ap_claims.proofs.Growing.{IsFrom, no-text, front-claim, front-zeros, no-file, joined-file, added-file, turned-file, among-either, among-front, among-behind}
 use Rattle.ap_elf.specs.declared.machine.Machine.{Machine}
@@ -18,7 +18,7 @@ use Rattle.ap_script.specs.Script.{header_for}
 use Rattle.ap_script.specs.Delimiter.{delimiter_number}
 use Rattle.ap_script.specs.Blocks.{magic, magic_line, opening_line, opening, tables_text, body_of, ending_of, block_of}
 use Rattle.ap_script.specs.Stands.{statement_place}
-use Rattle.ap_script.specs.Claims.{claim, table_claims, statement_claims, block_claims, BlockIsClaimed}
+use Rattle.ap_script.specs.Claims.{table_claims, statement_claims, block_claims, BlockIsClaimed}
 use Rattle.ap_script.proofs.TableLengths.{length-table_text}
 use Rattle.ap_script.proofs.Openings.{parts-holds}
 use Rattle.ap_script.proofs.BlockParts.{length-block, block-begins, front-parts}

@@ -16,6 +16,7 @@ use Rattle.ap_layout.specs.Areas.{end_from, after, new_areas, ServeAll}
 use Rattle.ap_layout.specs.Positions.{Positions, PlacedInput, Fits, AreServed, AreTables, tables_start, table_length, placed, placed_inputs, only_inputs, all_areas}
 use Rattle.ap_layout.proofs.Rounded.{granule_of-is}
 use Rattle.ap_layout.proofs.NewAreas.{end-least}
+use Rattle.ap_layout.proofs.Fitting.{serve-same}
 use Rattle.ap_script.specs.Places.{IsKnown, Placed}
 
 loads-tops : (g size low : ℕ) (loads : List Load) → AreLoads g size low loads → All (λ p. p.vaddr + p.filesz ≤ 2 ^ 47) loads
@@ -34,13 +35,6 @@ placed-input e g loads areas m same places g_is loads_is = record {
   tops = subst (λ l. All (λ p. p.vaddr + p.filesz ≤ 2 ^ 47) l) (sym loads_is) (loads-tops (granule_of e.machine) e.size 0 e.loads m.loads);
   places = places;
 }
-
--- as many areas as loads
-pub serve-same : (g : ℕ) (news : List Area) (loads : List Load) (areas : List Area) → ServeAll g news loads areas → length areas ≡ length loads
-serve-same g news [] [] h = refl
-serve-same g news [] (a ∷ areas) h = absurd h
-serve-same g news (p ∷ loads) [] h = absurd h
-serve-same g news (p ∷ loads) (a ∷ areas) h = ap (λ n. suc n) (serve-same g news loads areas h.1)
 
 -- an area begins below the end
 areas-below : (c n : ℕ) (areas : List Area) → end_from c areas < n → All (λ x. x.file < n) areas

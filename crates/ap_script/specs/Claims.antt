@@ -1,9 +1,8 @@
 -- What the block of a linked file is claimed for, and by whom.
 use Rattle.std.specs.Prelude.{ℕ, List, [], ◌∷◌, ◌++◌, map, Option, Some, None}
 use Rattle.ap_fields.specs.declared.sizes.TheConstants.{BLOCK}
-use Rattle.ap_claims.specs.declared.owner.Owner.{Owner}
 use Rattle.ap_claims.specs.declared.owner.Owner.TheVariants.{Shell, Ape, Elf}
-use Rattle.ap_claims.specs.Lists.{Claim}
+use Rattle.ap_claims.specs.Lists.{Claim, claim}
 use Rattle.ap_claims.specs.Files.{IsFile}
 use Rattle.ap_octal.specs.Statement.{statement_of}
 use Rattle.ap_elf.specs.declared.machine.Machine.TheVariants.{X64, A64}
@@ -15,10 +14,6 @@ use Rattle.ap_script.specs.Script.{header_for}
 use Rattle.ap_script.specs.Delimiter.{delimiter_number}
 use Rattle.ap_script.specs.Blocks.{magic, magic_line, opening_line, body_of, ending_of, block_of}
 use Rattle.ap_script.specs.Stands.{statement_place}
-
--- bytes that an owner claims from a place on
-abbrev pub claim : Owner → ℕ → List ℕ → Claim
-claim owner at bytes = record { owner = owner; at = at; bytes = bytes }
 
 -- each input's program header table
 abbrev pub table_claims : List PlacedInput → List Claim

@@ -1,6 +1,6 @@
 -- The ELF header and the program headers that the linker writes for an input (System V gABI, "ELF Header" and "Program
 -- Header"; `PT_GNU_STACK` as Linux takes it).
-use Rattle.std.specs.Prelude.{ℕ, zero, suc, ◌+◌, ◌-◌, ◌%◌, ◌==◌, ◌&&◌, min, nat_le, nat_lt, if◌then◌else◌, Bool, List, [], ◌∷◌, ◌++◌, map, Option, Some, None, bit_and}
+use Rattle.std.specs.Prelude.{ℕ, zero, suc, ◌+◌, ◌-◌, ◌%◌, ◌==◌, ◌&&◌, nat_le, nat_lt, if◌then◌else◌, Bool, List, [], ◌∷◌, ◌++◌, map, Option, Some, None, bit_and}
 use Rattle.ap_fields.specs.Granules.{floor_of, ceil_of}
 use Rattle.ap_elf.specs.declared.constants.TheConstants.{ET_EXEC, EV_CURRENT, EHDR_SIZE, PHDR_SIZE, PT_LOAD, PT_NOTE, PT_TLS, PT_GNU_STACK, PF_R}
 use Rattle.ap_elf.specs.declared.types.Header.{Header}
@@ -11,7 +11,8 @@ use Rattle.ap_elf.specs.Machines.{granule_of, number_of}
 use Rattle.ap_check.specs.Inputs.{Taken}
 use Rattle.ap_layout.specs.declared.layout.Area.{Area}
 use Rattle.ap_layout.specs.Positions.{PlacedInput, entry_count}
-use Rattle.ap_script.specs.declared.table.TheConstants.{MOST_STACK, STACK_GRANULE, STACK_ALIGN, ALL_FLAGS}
+use Rattle.ap_layout.specs.Stacks.{stack_size}
+use Rattle.ap_script.specs.declared.table.TheConstants.{STACK_ALIGN, ALL_FLAGS}
 
 -- a load: its permissions, addresses and sizes are the input's, and its bytes stand in the area as far from a granule's start
 -- as they do in memory; a load without bytes in the file has the empty area
@@ -22,11 +23,6 @@ abbrev pub load_entries : ℕ → List Load → List Area → List Entry
 load_entries g [] areas = []
 load_entries g (p ∷ loads) [] = []
 load_entries g (p ∷ loads) (x ∷ areas) = load_entry g p x ∷ load_entries g loads areas
-
--- the stack size of an input: in whole granules of stacks, MOST_STACK at most, and 0 where none is asked for
-abbrev pub stack_size : Option Entry → ℕ
-stack_size None = 0
-stack_size (Some p) = min MOST_STACK (ceil_of p.memsz STACK_GRANULE)
 
 abbrev pub stack_entries : Option Entry → List Entry
 stack_entries None = []

@@ -2,11 +2,11 @@
 ghost use Rattle.std.specs.Prelude.{◌≡◌, ◌+◌, ◌≤◌, [], ◌∷◌, ◌++◌, length};
 ghost use Rattle.ap_fields.specs.declared.sizes.TheConstants.{WINDOW};
 ghost use Rattle.ap_claims.specs.declared.owner.Owner.TheVariants.{Shell, Ape};
-ghost use Rattle.ap_claims.specs.Lists.{Makes};
+ghost use Rattle.ap_claims.specs.Lists.{Makes, claim};
 ghost use Rattle.ap_octal.specs.declared.types.TheConstants.{MOST_STATEMENT};
 ghost use Rattle.ap_layout.specs.Positions.{Fits};
 ghost use Rattle.ap_script.specs.Blocks as spec;
-ghost use Rattle.ap_script.specs.Claims.{claim, statement_claims, script_claims};
+ghost use Rattle.ap_script.specs.Claims.{statement_claims, script_claims};
 ghost use Rattle.ap_script.specs.Jobs.{job_inputs};
 
 use crate::body::body;

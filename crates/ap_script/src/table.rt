@@ -11,15 +11,10 @@ use crate::place::place_of;
 use ap_check::{Input, Load};
 use ap_elf::Entry;
 use ap_elf::constants::{PF_R, PF_W, PF_X, PT_GNU_STACK, PT_LOAD, PT_NOTE, PT_TLS};
-use ap_fields::ceil_to;
-use ap_layout::{Area, MOST_ENTRIES};
+use ap_layout::{Area, MOST_ENTRIES, stack_size};
 use arrayvec::ArrayVec;
 use bitflags::Flags;
 
-// The most bytes of a stack that is asked for.
-const MOST_STACK: u64 = 1 << 30;
-// What a stack's size is a multiple of.
-const STACK_GRANULE: u64 = 1 << 16;
 // What a stack's address is a multiple of.
 const STACK_ALIGN: u64 = 16;
 
@@ -83,18 +78,11 @@ fn push_stack(table: &mut Table, stack: &Option<Entry>)
         table.push(Entry {
             kind: PT_GNU_STACK,
             flags: p.flags & ALL_FLAGS,
-            memsz: stack_size(p),
+            memsz: stack_size(stack),
             align: STACK_ALIGN,
             ..Entry::default()
         });
     }
-}
-
-// The size of a stack: in whole granules of stacks.
-fn stack_size(p: &Entry) -> u64
-    ensures { result ≡ spec.stack_size (Some p.now) }
-{
-    ceil_to(p.memsz.min(MOST_STACK), STACK_GRANULE)
 }
 
 fn push_notes(table: &mut Table, granule: u64, loads: &[Load], areas: &[Area], notes: &[Entry])

@@ -2,10 +2,10 @@
 ghost use Rattle.std.specs.Prelude.{◌≡◌, ◌+◌, ◌≤◌, ◌<◌, [], ◌∷◌, length, All};
 ghost use Rattle.ap_fields.specs.declared.sizes.TheConstants.{WINDOW};
 ghost use Rattle.ap_claims.specs.declared.owner.Owner.TheVariants.{Elf};
-ghost use Rattle.ap_claims.specs.Lists.{Makes};
+ghost use Rattle.ap_claims.specs.Lists.{Makes, claim};
 ghost use Rattle.ap_layout.specs.declared.sizes.TheConstants.{MOST_TABLE, FILE_TOP};
 ghost use Rattle.ap_layout.specs.Positions.{Fits, placed_inputs};
-ghost use Rattle.ap_script.specs.Claims.{claim, table_claims};
+ghost use Rattle.ap_script.specs.Claims.{table_claims};
 ghost use Rattle.ap_script.specs.Jobs.{job_inputs};
 ghost use Rattle.ap_script.specs.Tables.{table_text};
 

@@ -2,7 +2,8 @@ use Rattle.std.proofs.Common.{rules, ◌++◌, refl}
 use Rattle.ap_claims.specs.declared.owner.Owner.TheVariants.{Ape}
 use Rattle.ap_claims.proofs.Writers.{next-claim, stopped-writer, next-writer}
 use Rattle.ap_script.specs.Blocks as spec
-use Rattle.ap_script.specs.Claims.{claim, statement_claims}
+use Rattle.ap_claims.specs.Lists.{claim}
+use Rattle.ap_script.specs.Claims.{statement_claims}
 use Rattle.ap_script.proofs.shell.write_for_loaders.Goals as goal
 
 pub returns-in_err-write_statement : goal.returns-in_err-write_statement

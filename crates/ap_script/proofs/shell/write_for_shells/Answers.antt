@@ -1,8 +1,8 @@
+use Rattle.ap_claims.specs.Lists.{claim}
 use Rattle.std.proofs.Common.{rules, ◌≡◌, [], ◌∷◌, refl}
 use Rattle.ap_claims.specs.declared.owner.Owner.TheVariants.{Shell}
 use Rattle.ap_claims.proofs.Writers.{stopped-claim, next-claim, one-claim}
 use Rattle.ap_script.specs.Blocks as spec
-use Rattle.ap_script.specs.Claims.{claim}
 use Rattle.ap_script.proofs.shell.write_for_shells.Goals as goal
 
 pub returns-in_err-claim : goal.returns-in_err-claim

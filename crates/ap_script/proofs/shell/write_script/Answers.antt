@@ -2,14 +2,14 @@ use Rattle.std.proofs.Common.{rules, ◌≡◌, ℕ, [], ◌∷◌, ◌++◌, Li
 use Rattle.ap_claims.specs.declared.block.Clash.{Clash}
 use Rattle.ap_claims.specs.declared.owner.Owner.TheVariants.{Shell, Ape}
 use Rattle.ap_claims.specs.Blocks.{BlockState}
-use Rattle.ap_claims.specs.Lists.{Makes}
+use Rattle.ap_claims.specs.Lists.{Makes, claim}
 use Rattle.ap_claims.proofs.Writers.{stopped-writer, next-writer}
 use Rattle.ap_elf.specs.declared.machine.Machine.TheVariants.{X64, A64}
 use Rattle.ap_script.specs.Blocks.{magic, magic_line, opening_line, body_of, ending_of}
 use Rattle.ap_script.specs.Delimiter.{delimiter_number}
 use Rattle.ap_script.specs.Script.{header_for}
 use Rattle.ap_script.specs.Stands.{statement_place}
-use Rattle.ap_script.specs.Claims.{claim, statement_claims, ape_claims, shell_claims}
+use Rattle.ap_script.specs.Claims.{statement_claims, ape_claims, shell_claims}
 use Rattle.ap_layout.specs.Positions.{placed_inputs}
 use Rattle.ap_script.specs.Jobs.{job_inputs}
 use Rattle.ap_script.proofs.shell.write_script.Goals as goal

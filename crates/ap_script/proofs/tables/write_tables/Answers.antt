@@ -1,10 +1,10 @@
 use Rattle.std.proofs.Common.{rules, ◌≡◌, ◌+◌, ◌∷◌, [], ◌++◌, List, drop, Ok, sym, ap, ◌∙◌, subst, append_assoc, refl}
 use Rattle.ap_claims.specs.declared.owner.Owner.TheVariants.{Elf}
-use Rattle.ap_claims.specs.Lists.{Claim, Makes}
+use Rattle.ap_claims.specs.Lists.{Claim, Makes, claim}
 use Rattle.ap_claims.proofs.Writers.{next-writer, stopped-writer}
 use Rattle.ap_layout.specs.Positions.{PlacedInput, placed_inputs}
 use Rattle.ap_script.specs.Tables.{table_text}
-use Rattle.ap_script.specs.Claims.{claim, table_claims}
+use Rattle.ap_script.specs.Claims.{table_claims}
 use Rattle.ap_script.specs.Jobs.{job_inputs, placed_of}
 use Rattle.ap_script.proofs.tables.write_tables.Goals as goal
 
