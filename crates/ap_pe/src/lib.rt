@@ -10,10 +10,15 @@ mod rules; // what is asked of the headers
 mod file; // the headers of a file by its name
 mod slice; // the same of bytes in memory
 mod law; // where the reading looks
+mod program; // what headers say of a program
+mod sections; // the sections of a program
+mod headers; // its headers as bytes
 
 pub use check::{check_rules, refusal};
 pub use fault::{PeCause, PeFault};
 pub use file::{read_pe_in, sections_in};
+pub use headers::pe_headers;
 pub use law::pe_reads_alike;
+pub use program::{Directory, Program};
 pub use slice::{read_pe, section};
 pub use types::{PeHeaders, PeSection};
