@@ -4,3 +4,4 @@ pub mod Stages
 pub mod Looks
 pub mod Sections
 pub mod Written
+pub mod Claims

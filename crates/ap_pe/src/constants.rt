@@ -74,3 +74,5 @@ pub const USUAL_HEAP: u64 = 0x10_0000;
 pub const USUAL_COMMIT: u64 = 0x1000;
 /// The version of Windows that is asked for: Vista.
 pub const SYSTEM_VERSION: u16 = 6;
+/// The place in a linked file of the PE headers: behind the here-document's opening and ten zeros.
+pub const HEADERS_PLACE: u32 = 96;
