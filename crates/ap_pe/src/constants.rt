@@ -1,6 +1,8 @@
 // The numbers of the PE32+ format that are looked at or written, by the names that the PE/COFF specification gives them, and
 // the limits that readings set to them.
 
+use ap_fields::MOST_LOADS;
+
 /// The first two bytes of a file, `MZ`, as a number.
 pub const IMAGE_DOS_SIGNATURE: u16 = 0x5a4d;
 /// The bytes at a file's start that say where the PE headers stand.
@@ -50,3 +52,27 @@ pub const IMAGE_SCN_MEM_EXECUTE: u32 = 0x20000000;
 pub const IMAGE_SCN_MEM_READ: u32 = 0x40000000;
 /// The flag of a section that may be written.
 pub const IMAGE_SCN_MEM_WRITE: u32 = 0x80000000;
+
+/// What the addresses of the sections that are written are multiples of: the granule of x86-64.
+pub const SECTION_ALIGNMENT: u64 = 4096;
+/// What the sizes of their bytes in the file are multiples of.
+pub const FILE_ALIGNMENT: u64 = 512;
+/// The letter in the name of a load's section.
+pub const LOAD_LETTER: u8 = b'a';
+/// The letter in the name of a gap's section.
+pub const FILLER_LETTER: u8 = b'g';
+/// The most sections that are written: of each load, and of a gap in front of it.
+pub const MOST_WRITTEN: usize = 2 * MOST_LOADS;
+/// The most bytes of the PE headers that are written.
+pub const MOST_HEADERS: usize = FILE_HEADER_SIZE + OPTIONAL_SIZE + SECTION_SIZE * MOST_WRITTEN;
+
+/// How much of a stack is reserved where a program doesn't say.
+pub const USUAL_STACK: u64 = 0x80_0000;
+/// How much of a heap is reserved.
+pub const USUAL_HEAP: u64 = 0x10_0000;
+/// How much of a stack or of a heap is there from the start on.
+pub const USUAL_COMMIT: u64 = 0x1000;
+/// The version of Windows that is asked for: Vista.
+pub const SYSTEM_VERSION: u16 = 6;
+/// The place in a linked file of the PE headers: behind the here-document's opening and ten zeros.
+pub const HEADERS_PLACE: u32 = 96;

@@ -1,4 +1,5 @@
-//! The headers of PE32+ files: how they are read, and the definition of what such a file puts into memory, the PE reading.
+//! The headers of PE32+ files: those of a program for Windows in a linked file, how headers are read, and the definition of what
+//! such a file puts into memory, the PE reading.
 #![tactic(auto)]
 
 pub mod constants; // the numbers of the format
@@ -10,10 +11,17 @@ mod rules; // what is asked of the headers
 mod file; // the headers of a file by its name
 mod slice; // the same of bytes in memory
 mod law; // where the reading looks
+mod program; // what headers say of a program
+mod sections; // the sections of a program
+mod headers; // its headers as bytes
+mod write; // the headers, claimed
 
 pub use check::{check_rules, refusal};
 pub use fault::{PeCause, PeFault};
 pub use file::{read_pe_in, sections_in};
+pub use headers::pe_headers;
 pub use law::pe_reads_alike;
+pub use program::{Directory, Program};
 pub use slice::{read_pe, section};
 pub use types::{PeHeaders, PeSection};
+pub use write::write_headers;
