@@ -4,9 +4,8 @@ use Rattle.std.specs.Option.{is_some}
 use Rattle.ap_fields.specs.Granules.{floor_of}
 use Rattle.ap_fields.specs.FirstFault.{Rules}
 use Rattle.ap_fields.specs.declared.sizes.TheConstants.{PE_SPAN}
-use Rattle.ap_elf.specs.declared.machine.Machine.{Machine}
-use Rattle.ap_elf.specs.declared.machine.Machine.TheVariants.{X64, A64}
-use Rattle.ap_elf.specs.Machines.{granule_of}
+use Rattle.ap_elf.specs.declared.machine.Machine.TheVariants.{X64}
+use Rattle.ap_elf.specs.Machines.{granule_of, is_machine}
 use Rattle.ap_check.specs.declared.fault.Fault.{Fault}
 use Rattle.ap_check.specs.declared.load.Load.{Load}
 use Rattle.ap_check.specs.declared.symbols.Symbols.{Symbols}
@@ -17,14 +16,10 @@ use Rattle.ap_check.specs.Options.{for_windows}
 use Rattle.ap_check.specs.Rules.{fault_of}
 use Rattle.ap_check.specs.Inputs.{Taken, in_part, can_start, first_start, last_stop}
 
-abbrev pub is_x64 : Machine → Bool
-is_x64 X64 = true
-is_x64 A64 = false
-
 -- the first input for x86-64
 abbrev pub x64_of : List Taken → Option Taken
 x64_of [] = None
-x64_of (e ∷ inputs) = if is_x64 e.machine then Some e else x64_of inputs
+x64_of (e ∷ inputs) = if is_machine X64 e.machine then Some e else x64_of inputs
 
 -- where the program starts on Windows, or 0 where no symbol tells it
 abbrev pub pe_entry_of : Taken → ℕ

@@ -3,7 +3,8 @@ ghost use Rattle.std.specs.Prelude.{◌≡◌, ◌≢◌, true, IfSome, IsSomeAn
 ghost use Rattle.std.proofs.Props.{props};
 ghost use Rattle.ap_check.specs.Options.{AreTaken, for_windows};
 ghost use Rattle.ap_check.specs.Inputs.{inputs_of};
-ghost use Rattle.ap_check.specs.Windows as spec;
+ghost use Rattle.ap_elf.specs.declared.machine.Machine.TheVariants.{X64};
+ghost use Rattle.ap_elf.specs.Machines.{is_machine};
 ghost use Rattle.ap_check.specs.Windows.{x64_of, IsReady};
 
 use crate::input::Input;
@@ -42,7 +43,7 @@ impl<'a> Job<'a> {
 }
 
 fn is_x64(input: &Input) -> bool
-    ensures { result ≡ spec.is_x64 input.now.machine }
+    ensures { result ≡ is_machine X64 input.now.machine }
 {
     input.machine == Machine::X64
 }

@@ -9,3 +9,4 @@ pub mod Sightings
 pub mod Values
 pub mod ReadBack
 pub mod Filling
+pub mod Machines

@@ -5,11 +5,12 @@ use Rattle.std.proofs.lemmas.List.Elements.{All-head, All-tail}
 use Rattle.ap_fields.specs.Granules.{floor_of, ceil_of}
 use Rattle.ap_check.specs.declared.load.Load.{Load}
 use Rattle.ap_check.specs.declared.options.Options.{Options}
-use Rattle.ap_elf.specs.Machines.{granule_of}
+use Rattle.ap_elf.specs.declared.machine.Machine.TheVariants.{X64}
+use Rattle.ap_elf.specs.Machines.{granule_of, is_machine}
 use Rattle.ap_fields.specs.declared.sizes.TheConstants.{PE_SPAN}
 use Rattle.ap_check.specs.Options.{for_windows}
 use Rattle.ap_check.specs.Inputs.{Taken, Meets}
-use Rattle.ap_check.specs.Windows.{is_x64, x64_of, base_of}
+use Rattle.ap_check.specs.Windows.{x64_of, base_of}
 use Rattle.ap_layout.specs.declared.sizes.TheConstants.{MOST_HEADERS, MOST_SECTIONS}
 use Rattle.ap_layout.specs.Headers.{section_count, headers_length, pe_length}
 
@@ -33,7 +34,7 @@ x64-case P false e o h rest = rest
 pub x64_of-all : (P : Taken → Type 0) (inputs : List Taken) → All P inputs → IfSome (x64_of inputs) P
 x64_of-all P [] all = tt
 x64_of-all P (e ∷ inputs) all =
-    x64-case P (is_x64 e.machine) e (x64_of inputs) (All-head P e inputs all) (x64_of-all P inputs (All-tail P e inputs all))
+    x64-case P (is_machine X64 e.machine) e (x64_of inputs) (All-head P e inputs all) (x64_of-all P inputs (All-tail P e inputs all))
 
 headers-most : (o : Option Taken) → IfSome o Meets → headers_length o ≤ MOST_HEADERS
 headers-most None m = omega arith

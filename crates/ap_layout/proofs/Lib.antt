@@ -5,3 +5,4 @@ pub mod Walked
 pub mod HeaderLengths
 pub mod Fitting
 pub mod Made
+pub mod Known

@@ -3,3 +3,4 @@ pub mod Headers
 pub mod Positions
 pub mod Apart
 pub mod Stacks
+pub mod Jobs

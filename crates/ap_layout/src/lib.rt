@@ -6,11 +6,15 @@ mod areas; // the areas of one input
 mod headers; // how long the PE headers are
 mod tables; // the program header tables
 mod layout; // layouts, and areas
+mod placed; // the inputs of a job, with their places
+mod placement; // an input with its places
 mod stack; // the stack that an input asks for
 mod sizes; // how large parts may be
 
 pub use headers::pe_length;
 pub use layout::{Area, Layout};
+pub use placed::{input_count, placed_for, placed_input};
+pub use placement::Placement;
 pub use position::{areas_are_apart, place};
 pub use sizes::{
     FILE_TOP, MOST_BODY, MOST_ENTRIES, MOST_HEADERS, MOST_SECTIONS, MOST_TABLE, OPENING,

@@ -6,7 +6,7 @@ ghost use Rattle.ap_claims.specs.Lists.{Makes};
 ghost use Rattle.ap_layout.specs.Positions.{Fits};
 ghost use Rattle.ap_script.specs.Blocks.{block_of};
 ghost use Rattle.ap_script.specs.Claims.{block_claims};
-ghost use Rattle.ap_script.specs.Jobs.{job_inputs};
+ghost use Rattle.ap_layout.specs.Jobs.{job_inputs};
 
 use ap_check::Job;
 use ap_claims::{Block, Clash};

@@ -5,3 +5,7 @@ pub mod Framed
 pub mod Fitting
 pub mod Rounding
 pub mod Sums
+pub mod HeaderZeros
+pub mod SectionZeros
+pub mod LinkedHeaders
+pub mod Programs

@@ -5,3 +5,4 @@ pub mod Looks
 pub mod Sections
 pub mod Written
 pub mod Claims
+pub mod Linked

@@ -15,6 +15,7 @@ mod program; // what headers say of a program
 mod sections; // the sections of a program
 mod headers; // its headers as bytes
 mod write; // the headers, claimed
+mod windows; // what of a linked file is for Windows
 
 pub use check::{check_rules, refusal};
 pub use fault::{PeCause, PeFault};
@@ -24,4 +25,5 @@ pub use law::pe_reads_alike;
 pub use program::{Directory, Program};
 pub use slice::{read_pe, section};
 pub use types::{PeHeaders, PeSection};
+pub use windows::{pe_text, write_pe};
 pub use write::write_headers;

@@ -9,7 +9,8 @@ use Rattle.ap_elf.specs.declared.machine.Machine.TheVariants.{X64, A64}
 use Rattle.ap_check.specs.Inputs.{Taken}
 use Rattle.ap_layout.specs.Positions.{Positions, PlacedInput, Fits, only_inputs, placed_inputs}
 use Rattle.ap_script.specs.Tables.{embedded_bytes}
-use Rattle.ap_script.specs.Script.{machine_start, machine_end, machine_lines, is_machine, header_for}
+use Rattle.ap_elf.specs.Machines.{is_machine}
+use Rattle.ap_script.specs.Script.{machine_start, machine_end, machine_lines, header_for}
 use Rattle.ap_script.specs.Blocks.{block_of}
 use Rattle.ap_script.specs.Stands.{MachinesDiffer, IsOneOf, machines_start, statement_place, statement_places, place_if}
 use Rattle.ap_script.proofs.ScriptParts.{IsHeader, header-is}

@@ -22,7 +22,9 @@ use Rattle.ap_check.specs.Inputs.{Taken}
 use Rattle.ap_layout.specs.Positions.{PlacedInput, entry_count}
 use Rattle.ap_script.specs.Tables.{embedded_header, embedded_bytes}
 use Rattle.ap_check.specs.Options.{has_system}
-use Rattle.ap_script.specs.Script.{script_start, or_tests, system_line, dd_line, darwin_x64_lines, darwin_lines, system_lines, machine_start, machine_end, machine_lines, script_end, script_of, is_machine, header_for}
+use Rattle.ap_elf.specs.Machines.{is_machine}
+use Rattle.ap_elf.proofs.Machines.{is_machine-same}
+use Rattle.ap_script.specs.Script.{script_start, or_tests, system_line, dd_line, darwin_x64_lines, darwin_lines, system_lines, machine_start, machine_end, machine_lines, script_end, script_of, header_for}
 use Rattle.ap_script.proofs.Quotes.{digit-bare, has_no_quote, no_quote-append}
 use Rattle.ap_script.proofs.Openings.{Marked, marked-append, marked-quiet, marked-statement, Parts, parts-behind, parts-front}
 
@@ -104,12 +106,6 @@ pub record IsHeader (m : Machine) (header : List ℕ) : Type 0 where
   pub bytes : (k : ℕ) → get_or header k 0 < 256
   pub begins : starts_with nat_eq header (127 ∷ 69 ∷ 76 ∷ 70 ∷ 2 ∷ 1 ∷ []) ≡ true
   pub number : number_at 2 18 header ≡ number_of m
-
-pub is_machine-same : (m n : Machine) → is_machine m n ≡ true → m ≡ n
-is_machine-same X64 X64 h = refl
-is_machine-same A64 A64 h = refl
-is_machine-same X64 A64 h = absurd (cc)
-is_machine-same A64 X64 h = absurd (cc)
 
 is-header : (m : Machine) (e : Taken) (t : ℕ) → m ≡ e.machine → IsHeader m (embedded_bytes e t)
 is-header m e t same = record {

@@ -29,8 +29,8 @@ use Rattle.ap_layout.specs.Positions.{Positions, Fits, entry_count, PlacedInput,
 use Rattle.ap_script.specs.Tables.{load_entry, load_entries, stack_entries, is_backed, place_of, note_entry, tls_entries, table_of, table_text}
 use Rattle.ap_script.specs.Blocks.{tables_text, body_of}
 use Rattle.ap_script.specs.Stands.{HasZeros}
-use Rattle.ap_script.specs.Places.{IsKnown}
-use Rattle.ap_script.proofs.Fitting.{fits-known}
+use Rattle.ap_layout.specs.Jobs.{IsKnown}
+use Rattle.ap_layout.proofs.Known.{fits-known}
 use Rattle.ap_script.proofs.TableLengths.{length-table_text}
 
 -- ---- texts whose eighth bytes are zero

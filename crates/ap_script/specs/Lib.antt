@@ -1,7 +1,6 @@
 pub mod Tables
 pub mod Delimiter
 pub mod Script
-pub mod Jobs
 pub mod Places
 pub mod Blocks
 pub mod Stands

@@ -10,6 +10,7 @@ use Rattle.ap_check.specs.declared.options.Systems.{Systems}
 use Rattle.ap_check.specs.Options.{has_system}
 use Rattle.ap_elf.specs.declared.machine.Machine.{Machine}
 use Rattle.ap_elf.specs.declared.machine.Machine.TheVariants.{X64, A64}
+use Rattle.ap_elf.specs.Machines.{is_machine}
 use Rattle.ap_layout.specs.Positions.{PlacedInput}
 use Rattle.ap_script.specs.Tables.{embedded_bytes}
 
@@ -90,11 +91,6 @@ script_of systems x64 a64 skip count =
     script_start ++ (system_lines systems x64 skip count ++ (machine_lines X64 x64 ++ (machine_lines A64 a64 ++ script_end)))
 
 -- the embedded header of the input for a machine, by the inputs and the places of their tables
-abbrev pub is_machine : Machine → Machine → Bool
-is_machine X64 X64 = true
-is_machine A64 A64 = true
-is_machine m n = false
-
 abbrev pub header_for : Machine → List PlacedInput → Option (List ℕ)
 header_for m [] = None
 header_for m (p ∷ ps) = if is_machine m p.input.machine then Some (embedded_bytes p.input p.table) else header_for m ps

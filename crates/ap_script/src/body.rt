@@ -7,15 +7,14 @@ ghost use Rattle.ap_elf.specs.Written as written;
 ghost use Rattle.ap_layout.specs.declared.sizes.TheConstants.{OPENING, MOST_BODY, MOST_TABLE, MOST_ENTRIES, FILE_TOP};
 ghost use Rattle.ap_layout.specs.Positions.{Fits};
 ghost use Rattle.ap_script.specs.Blocks.{body_of};
-ghost use Rattle.ap_script.specs.Jobs.{job_inputs};
+ghost use Rattle.ap_layout.specs.Jobs.{job_inputs};
 ghost use Rattle.ap_script.specs.Tables.{table_text};
 
-use crate::placed::{input_count, placed_input};
 use crate::table::table;
 use crate::text::{Text, push_text};
 use ap_check::{Input, Job};
 use ap_elf::{Entry, entry_bytes};
-use ap_layout::{Area, Layout};
+use ap_layout::{Area, Layout, input_count, placed_input};
 use arrayvec::ArrayVec;
 
 /// The body: zeros up to byte 96 of the linked file, and a program header table for each input.

@@ -6,7 +6,7 @@ ghost use Rattle.ap_octal.specs.declared.types.TheConstants.{MOST_STATEMENT};
 ghost use Rattle.ap_layout.specs.Positions.{Fits, placed_inputs};
 ghost use Rattle.ap_script.specs.Blocks.{closing, spaces, body_of, ending_of};
 ghost use Rattle.ap_script.specs.Delimiter.{delimiter_number};
-ghost use Rattle.ap_script.specs.Jobs.{job_inputs};
+ghost use Rattle.ap_layout.specs.Jobs.{job_inputs};
 ghost use Rattle.ap_script.specs.Script.{header_for};
 ghost use Rattle.ap_script.specs.Stands.{statement_place};
 

@@ -1,16 +1,16 @@
 // The embedded header of an input.
 ghost use Rattle.std.specs.Prelude.{◌≡◌, ◌<◌, length};
 ghost use Rattle.ap_layout.specs.Positions.{Fits, placed_inputs};
-ghost use Rattle.ap_script.specs.Jobs.{job_inputs};
+ghost use Rattle.ap_layout.specs.Jobs.{job_inputs};
+ghost use Rattle.ap_elf.specs.Machines.{is_machine};
 ghost use Rattle.ap_script.specs.Script as script;
 ghost use Rattle.ap_script.specs.Tables as spec;
 ghost use Rattle.ap_script.specs.Tables.{embedded_bytes, embedded_at};
 
-use crate::placed::{input_count, placed_input};
 use ap_check::{Input, Job, Machine};
 use ap_elf::constants::{EHDR_SIZE, ET_EXEC, EV_CURRENT, PHDR_SIZE};
 use ap_elf::{Header, header_bytes};
-use ap_layout::{Layout, entry_count};
+use ap_layout::{Layout, entry_count, input_count, placed_input};
 
 /// The embedded header of input `i`, counted from 0, where the parts of the linked file have these places: the ELF header of
 /// an executable file whose program header table is the one that stands in the linked file for the input.
@@ -42,7 +42,7 @@ pub(crate) fn machine_header(
 }
 
 fn is_for(input: &Input, machine: Machine) -> bool
-    ensures { result ≡ script.is_machine machine input.now.machine }
+    ensures { result ≡ is_machine machine input.now.machine }
 {
     input.machine == machine
 }

@@ -7,8 +7,6 @@ mod shell; // the script and the magic, claimed
 mod header; // the embedded header of an input
 mod table; // its program header table
 mod place; // where an address of it stands in the linked file
-mod placed; // the inputs of a job, with their places
-mod placement; // an input with its places
 mod body; // the here-document's body
 mod delimiter; // its delimiter
 mod ending; // what stands behind it

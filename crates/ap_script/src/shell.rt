@@ -7,7 +7,7 @@ ghost use Rattle.ap_octal.specs.declared.types.TheConstants.{MOST_STATEMENT};
 ghost use Rattle.ap_layout.specs.Positions.{Fits};
 ghost use Rattle.ap_script.specs.Blocks as spec;
 ghost use Rattle.ap_script.specs.Claims.{statement_claims, script_claims};
-ghost use Rattle.ap_script.specs.Jobs.{job_inputs};
+ghost use Rattle.ap_layout.specs.Jobs.{job_inputs};
 
 use crate::body::body;
 use crate::delimiter::{choose_delimiter, delimiter};

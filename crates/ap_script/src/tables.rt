@@ -6,14 +6,13 @@ ghost use Rattle.ap_claims.specs.Lists.{Makes, claim};
 ghost use Rattle.ap_layout.specs.declared.sizes.TheConstants.{MOST_TABLE, FILE_TOP};
 ghost use Rattle.ap_layout.specs.Positions.{Fits, placed_inputs};
 ghost use Rattle.ap_script.specs.Claims.{table_claims};
-ghost use Rattle.ap_script.specs.Jobs.{job_inputs};
+ghost use Rattle.ap_layout.specs.Jobs.{job_inputs};
 ghost use Rattle.ap_script.specs.Tables.{table_text};
 
 use crate::body::push_table;
-use crate::placed::{input_count, placed_input};
 use ap_check::{Input, Job};
 use ap_claims::{Block, Clash, ElfView};
-use ap_layout::{Area, Layout};
+use ap_layout::{Area, Layout, input_count, placed_input};
 use arrayvec::ArrayVec;
 
 /// Claims the program header table of each input for `Owner::Elf`, where the parts of the linked file have these places.

@@ -1,4 +1,4 @@
-use Rattle.ap_script.specs.Jobs.{job_inputs}
+use Rattle.ap_layout.specs.Jobs.{job_inputs}
 use Rattle.ap_link.proofs.ClaimedFiles.{block-bytes}
 use Rattle.ap_link.proofs.Filling.{no-clash, block-filled}
 use Rattle.ap_link.proofs.fill.fill.Goals as goal

@@ -2,7 +2,7 @@ use Rattle.ap_layout.specs.Positions.{placed_inputs}
 use Rattle.std.proofs.Common.{rules}
 use Rattle.ap_claims.proofs.Writers.{stopped-writer, next-writer}
 use Rattle.ap_script.specs.Claims.{table_claims, script_claims}
-use Rattle.ap_script.specs.Jobs.{job_inputs}
+use Rattle.ap_layout.specs.Jobs.{job_inputs}
 use Rattle.ap_link.proofs.fill.write.Goals as goal
 
 pub returns-in_err-write_tables : goal.returns-in_err-write_tables

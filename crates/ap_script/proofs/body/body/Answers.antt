@@ -1,7 +1,7 @@
 use Rattle.std.proofs.Common.{◌++◌, sym, ap, ◌∙◌, append-nil, arith}
 use Rattle.ap_script.specs.Blocks.{body_of, tables_text}
-use Rattle.ap_script.specs.Jobs.{job_inputs}
-use Rattle.ap_script.proofs.Fitting.{placed-end}
+use Rattle.ap_layout.specs.Jobs.{job_inputs}
+use Rattle.ap_layout.proofs.Known.{placed-end}
 use Rattle.ap_script.proofs.body.body.Goals as goal
 
 pub returns-clause-items : goal.returns-clause-items

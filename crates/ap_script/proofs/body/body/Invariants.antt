@@ -3,7 +3,7 @@ use Rattle.ap_fields.specs.Bytes.{zeros}
 use Rattle.ap_layout.specs.declared.sizes.TheConstants.{MOST_TABLE}
 use Rattle.ap_layout.specs.Positions.{placed_inputs}
 use Rattle.ap_script.specs.Blocks.{tables_text}
-use Rattle.ap_script.specs.Jobs.{job_inputs}
+use Rattle.ap_layout.specs.Jobs.{job_inputs}
 use Rattle.ap_script.proofs.body.body.Given as goal
 
 -- what is left are the tables of the inputs that are left

@@ -1,6 +1,6 @@
 use Rattle.std.proofs.Common.{◌≡◌, drop}
 use Rattle.ap_layout.specs.Positions.{placed_inputs}
-use Rattle.ap_script.specs.Jobs.{job_inputs}
+use Rattle.ap_layout.specs.Jobs.{job_inputs}
 use Rattle.ap_script.specs.Script as script
 use Rattle.ap_script.proofs.header.machine_header.Given as goal
 

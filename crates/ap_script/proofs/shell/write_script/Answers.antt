@@ -11,7 +11,7 @@ use Rattle.ap_script.specs.Script.{header_for}
 use Rattle.ap_script.specs.Stands.{statement_place}
 use Rattle.ap_script.specs.Claims.{statement_claims, ape_claims, shell_claims}
 use Rattle.ap_layout.specs.Positions.{placed_inputs}
-use Rattle.ap_script.specs.Jobs.{job_inputs}
+use Rattle.ap_layout.specs.Jobs.{job_inputs}
 use Rattle.ap_script.proofs.shell.write_script.Goals as goal
 
 as-apes : (b after : BlockState) (r : Result (Unit {0}) Clash) (x y v w : Option (List ℕ)) (p q s t : ℕ) → x ≡ v → y ≡ w → p ≡ s → q ≡ t

@@ -5,7 +5,7 @@ use Rattle.ap_claims.proofs.Writers.{next-writer, stopped-writer}
 use Rattle.ap_layout.specs.Positions.{PlacedInput, placed_inputs}
 use Rattle.ap_script.specs.Tables.{table_text}
 use Rattle.ap_script.specs.Claims.{table_claims}
-use Rattle.ap_script.specs.Jobs.{job_inputs, placed_of}
+use Rattle.ap_layout.specs.Jobs.{job_inputs, placed_of}
 use Rattle.ap_script.proofs.tables.write_tables.Goals as goal
 
 -- the claims that are made, one more, and what is left

@@ -1,7 +1,7 @@
 use Rattle.std.proofs.Common.{◌/◌, length, ap, sym, arith}
 use Rattle.ap_elf.specs.declared.machine.Machine.TheVariants.{X64, A64}
 use Rattle.ap_layout.specs.Positions.{placed_inputs}
-use Rattle.ap_script.specs.Jobs.{job_inputs}
+use Rattle.ap_layout.specs.Jobs.{job_inputs}
 use Rattle.ap_script.specs.Script.{machine_lines, header_for}
 use Rattle.ap_script.proofs.Endings.{place-room, script-behind, ending-short, ending-made, ending-long, lines-are}
 use Rattle.ap_script.proofs.ending.Ending.new.Goals as goal

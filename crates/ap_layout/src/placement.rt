@@ -1,10 +1,10 @@
 // An input with the places of its parts.
+use crate::layout::Area;
 use ap_check::Input;
-use ap_layout::Area;
 
 /// An input with the places of its parts in the linked file.
 #[derive(Clone, Copy)]
-pub(crate) struct Placement<'i, 'l> {
+pub struct Placement<'i, 'l> {
     pub input: &'i Input,
     /// The areas of its loads, in their order.
     pub areas: &'l [Area],

@@ -1,8 +1,8 @@
 use Rattle.std.proofs.Common.{◌+◌, ◌≤◌, [], drop, get_or, sym, ap, ◌∙◌, arith}
 use Rattle.std.specs.Option.{option_copied}
-use Rattle.ap_script.specs.Jobs.{job_inputs}
-use Rattle.ap_script.proofs.Fitting.{place-found, areas-held, few-inputs}
-use Rattle.ap_script.proofs.placed.placed_input.Goals as goal
+use Rattle.ap_layout.specs.Jobs.{job_inputs}
+use Rattle.ap_layout.proofs.Known.{place-found, areas-held, few-inputs}
+use Rattle.ap_layout.proofs.placed.placed_input.Goals as goal
 
 pub returns : goal.returns
 returns c =
