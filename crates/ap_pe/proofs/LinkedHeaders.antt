@@ -72,7 +72,7 @@ length-sections base end (p ∷ loads) (x ∷ areas) same =
 -- ---- the input for x86-64
 
 -- what is known of it with its places
-record IsFound (news : List Area) (p : PlacedInput) : Type 0 where
+pub record IsFound (news : List Area) (p : PlacedInput) : Type 0 where
   pub machine : p.input.machine ≡ X64
   pub served : ServeAll 4096 news p.input.loads p.areas
 
@@ -96,7 +96,7 @@ x64-same [] = refl
 x64-same (p ∷ ps) = input-case p (placed_for X64 ps) (x64_of (only_inputs ps)) (is_machine X64 p.input.machine) (x64-same ps)
 
 -- where positions fit, it is found among the inputs with their places
-found-in : (options : Options) (inputs : List Taken) (l : Positions) → Fits options inputs l
+pub found-in : (options : Options) (inputs : List Taken) (l : Positions) → Fits options inputs l
     → IfSome (placed_for X64 (placed_inputs inputs l)) (IsFound (new_areas BLOCK (all_areas (placed_inputs inputs l)))) × (option_map (λ p. p.input) (placed_for X64 (placed_inputs inputs l)) ≡ x64_of inputs)
 found-in options inputs l fits =
     let ps = placed_inputs inputs l in

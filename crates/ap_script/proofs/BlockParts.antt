@@ -1,18 +1,24 @@
 -- The parts of the block: how long they are, and what they hold.
-use Rattle.std.proofs.Common.{◌≡◌, ℕ, zero, suc, ◌+◌, ◌-◌, ◌/◌, ◌%◌, ◌≤◌, true, List, [], ◌∷◌, ◌++◌, length, get_or, refl, sym, ap, ◌∙◌, arith, length-append, append_assoc, subst}
+use Rattle.std.proofs.Common.{◌≡◌, ℕ, zero, suc, ◌+◌, ◌-◌, ◌/◌, ◌%◌, ◌≤◌, Bool, true, false, cond, List, [], ◌∷◌, ◌++◌, length, get_or, refl, sym, ap, ◌∙◌, arith, length-append, append_assoc, subst}
 use Rattle.std.specs.Prelude.{codes}
 use Rattle.std.proofs.lemmas.List.{length-replicate}
 use Rattle.ap_fields.specs.declared.sizes.TheConstants.{BLOCK, WINDOW}
 use Rattle.ap_fields.specs.Bytes.{zeros, Holds}
+use Rattle.ap_fields.specs.Fields.{bytes_of}
+use Rattle.ap_fields.proofs.Numbers.{length-bytes_of}
 use Rattle.ap_fields.proofs.Bytes.{length-zeros, holds-part}
 use Rattle.ap_check.specs.declared.options.Options.{Options}
 use Rattle.ap_elf.specs.declared.machine.Machine.TheVariants.{X64, A64}
+use Rattle.ap_check.specs.Options.{for_windows}
 use Rattle.ap_check.specs.Inputs.{Taken}
 use Rattle.ap_layout.specs.Areas.{new_areas}
 use Rattle.ap_layout.specs.Positions.{Positions, Fits, tables_start, placed_inputs, all_areas}
+use Rattle.ap_pe.specs.Claims.{place_bytes}
+use Rattle.ap_pe.specs.Linked.{headers_place, pe_text}
+use Rattle.ap_pe.proofs.LinkedHeaders.{length-pe_text}
 use Rattle.ap_script.specs.Script.{header_for}
 use Rattle.ap_script.specs.Delimiter.{digits_of, delimiter, delimiter_number}
-use Rattle.ap_script.specs.Blocks.{opening, tables_text, body_of, closing, script_for, shell_text, spaces, block_of}
+use Rattle.ap_script.specs.Blocks.{magic, magic_line, opening_line, opening, tables_text, body_of, closing, script_for, shell_text, spaces, block_of}
 use Rattle.ap_script.specs.Stands.{HoldsTables}
 use Rattle.ap_script.proofs.Quotes.{digit-bare, has_no_quote, is_clear, is_bare, bare-append, bare-clear, bare-no_quote, no_quote-append}
 use Rattle.ap_script.proofs.DelimiterWords.{length-delimiter}
@@ -21,21 +27,46 @@ use Rattle.ap_script.proofs.ScriptParts.{header-is, length-script}
 
 -- ---- lengths
 
-pub length-opening : (number : ℕ) → length (opening number) ≡ 86
-unfolding opening
-length-opening number =
-    let z = length-zeros 55 in
+length-magic : (w d : Bool) → length (cond w (codes "MZqFpD='") (cond d (codes "APEDBG='") (codes "jartsr='"))) ≡ 8
+length-magic true d = refl
+length-magic false true = refl
+length-magic false false = refl
+
+length-place : (w : Bool) → length (cond w place_bytes (zeros 4)) ≡ 4
+length-place true = length-bytes_of 4 96
+length-place false = length-zeros 4
+
+pub length-magic_line : (options : Options) → length (magic_line options) ≡ 9
+length-magic_line options =
+    let m = length-magic (for_windows options) options.debug in
+    let n = length-append (magic options) (codes "\n") in
+    omega arith
+
+pub length-opening_line : (number : ℕ) → length (opening_line number) ≡ 22
+length-opening_line number =
     let d = length-delimiter number in
-    let a = length-append (codes "jartsr='\n") (zeros 55 ++ (codes "' <<'" ++ (delimiter number ++ codes "'\n"))) in
-    let b = length-append (zeros 55) (codes "' <<'" ++ (delimiter number ++ codes "'\n")) in
     let c = length-append (codes "' <<'") (delimiter number ++ codes "'\n") in
     let e = length-append (delimiter number) (codes "'\n") in
+    omega arith
+
+pub length-opening : (options : Options) (number : ℕ) → length (opening options number) ≡ 86
+unfolding opening
+length-opening options number =
+    let z = length-zeros 51 in
+    let m = length-magic_line options in
+    let p = length-place (for_windows options) in
+    let d = length-opening_line number in
+    let a = length-append (magic_line options) (zeros 51 ++ (headers_place options ++ opening_line number)) in
+    let b = length-append (zeros 51) (headers_place options ++ opening_line number) in
+    let h = length-append (headers_place options) (opening_line number) in
     omega arith
 
 pub length-body : (options : Options) (inputs : List Taken) (l : Positions) → Fits options inputs l → 86 + length (body_of options inputs l) ≡ l.body_end
 unfolding body_of
 length-body options inputs l fits =
-    let a = length-append (zeros 10) (tables_text (placed_inputs inputs l)) in
+    let a = length-append (zeros 10) (pe_text options inputs l ++ tables_text (placed_inputs inputs l)) in
+    let b = length-append (pe_text options inputs l) (tables_text (placed_inputs inputs l)) in
+    let p = length-pe_text options inputs l fits in
     let z = length-zeros 10 in
     let t = length-tables (new_areas BLOCK (all_areas (placed_inputs inputs l))) (tables_start options inputs) l.body_end (placed_inputs inputs l) fits.areas fits.tables in
     omega arith
@@ -57,15 +88,15 @@ length-script_for options inputs l fits =
     length-script options.systems (header_for X64 (placed_inputs inputs l)) (header_for A64 (placed_inputs inputs l)) (l.mach_at / 8) (l.mach_len / 8) (header-is X64 (placed_inputs inputs l)) (header-is A64 (placed_inputs inputs l))
     (small-units options inputs l fits)
 
-pub length-text : (options : Options) (inputs : List Taken) (l : Positions) → Fits options inputs l → length (shell_text options inputs l) ≤ 4809
+pub length-text : (options : Options) (inputs : List Taken) (l : Positions) → Fits options inputs l → length (shell_text options inputs l) ≤ 6993
 unfolding shell_text
 length-text options inputs l fits =
     let k = delimiter_number (body_of options inputs l) in
     let s = script_for options inputs l in
-    let a = length-append (opening k) (body_of options inputs l ++ (closing k ++ s)) in
+    let a = length-append (opening options k) (body_of options inputs l ++ (closing k ++ s)) in
     let b = length-append (body_of options inputs l) (closing k ++ s) in
     let c = length-append (closing k) s in
-    let o = length-opening k in
+    let o = length-opening options k in
     let m = length-body options inputs l fits in
     let e = length-closing k in
     let t = length-script_for options inputs l fits in
@@ -119,9 +150,16 @@ bare-digits (suc n) k =
 bare-delimiter : (number : ℕ) → is_bare (delimiter number) ≡ true
 bare-delimiter number = bare-digits 8 number
 
-pub clear-opening : (number : ℕ) → is_clear 0 (opening number) ≡ true
-unfolding opening zeros
-clear-opening number = bare-clear 39 (delimiter number) (10 ∷ []) refl (bare-delimiter number) refl
+clear-front : (w d : Bool) (number : ℕ)
+    → is_clear 0 ((cond w (codes "MZqFpD='") (cond d (codes "APEDBG='") (codes "jartsr='")) ++ codes "\n") ++ (zeros 51 ++ (cond w place_bytes (zeros 4) ++ opening_line number))) ≡ true
+unfolding zeros bytes_of
+clear-front true d number = bare-clear 39 (delimiter number) (10 ∷ []) refl (bare-delimiter number) refl
+clear-front false true number = bare-clear 39 (delimiter number) (10 ∷ []) refl (bare-delimiter number) refl
+clear-front false false number = bare-clear 39 (delimiter number) (10 ∷ []) refl (bare-delimiter number) refl
+
+pub clear-opening : (options : Options) (number : ℕ) → is_clear 0 (opening options number) ≡ true
+unfolding opening
+clear-opening options number = clear-front (for_windows options) options.debug number
 
 pub quiet-closing : (number : ℕ) → has_no_quote (closing number) ≡ true
 unfolding closing
@@ -142,32 +180,35 @@ abbrev pub behind_body : Options → List Taken → Positions → List ℕ
 behind_body options inputs l =
     closing (delimiter_number (body_of options inputs l)) ++ (script_for options inputs l ++ spaces (WINDOW - length (shell_text options inputs l)))
 
-pub window-parts : (options : Options) (inputs : List Taken) (l : Positions) → window_text options inputs l ≡ opening (delimiter_number (body_of options inputs l)) ++ (body_of options inputs l ++ behind_body options inputs l)
+pub window-parts : (options : Options) (inputs : List Taken) (l : Positions) → window_text options inputs l ≡ opening options (delimiter_number (body_of options inputs l)) ++ (body_of options inputs l ++ behind_body options inputs l)
 unfolding shell_text
 window-parts options inputs l =
     let k = delimiter_number (body_of options inputs l) in
     let body = body_of options inputs l in
     let s = script_for options inputs l in
-    let fill = spaces (WINDOW - length (opening k ++ (body ++ (closing k ++ s)))) in
-    append_assoc (opening k) (body ++ (closing k ++ s)) fill
-    ∙ ap (λ r. opening k ++ r) (append_assoc body (closing k ++ s) fill ∙ ap (λ r. body ++ r) (append_assoc (closing k) s fill))
+    let fill = spaces (WINDOW - length (opening options k ++ (body ++ (closing k ++ s)))) in
+    append_assoc (opening options k) (body ++ (closing k ++ s)) fill
+    ∙ ap (λ r. opening options k ++ r) (append_assoc body (closing k ++ s) fill ∙ ap (λ r. body ++ r) (append_assoc (closing k) s fill))
 
 -- the magic
-opening-parts : (number : ℕ) (rest : List ℕ) → Holds (opening number ++ rest) 0 (codes "jartsr='")
+opening-parts : (options : Options) (number : ℕ) (rest : List ℕ) → Holds (opening options number ++ rest) 0 (magic options)
 unfolding opening
-opening-parts number rest = holds-part [] (codes "jartsr='") (codes "\n" ++ ((zeros 55 ++ (codes "' <<'" ++ (delimiter number ++ codes "'\n"))) ++ rest)) 0 refl
+opening-parts options number rest =
+    let behind = zeros 51 ++ (headers_place options ++ opening_line number) in
+    subst (λ w. Holds w 0 (magic options)) (sym (append_assoc (magic_line options) behind rest ∙ append_assoc (magic options) (codes "\n") (behind ++ rest)))
+    (holds-part [] (magic options) (codes "\n" ++ (behind ++ rest)) 0 refl)
 
 pub front-parts : (options : Options) (inputs : List Taken) (l : Positions) (rest : List ℕ)
-    → block_of options inputs l ++ rest ≡ opening (delimiter_number (body_of options inputs l)) ++ ((body_of options inputs l ++ behind_body options inputs l) ++ (zeros (BLOCK - WINDOW) ++ rest))
+    → block_of options inputs l ++ rest ≡ opening options (delimiter_number (body_of options inputs l)) ++ ((body_of options inputs l ++ behind_body options inputs l) ++ (zeros (BLOCK - WINDOW) ++ rest))
 front-parts options inputs l rest =
     block-parts options inputs l rest
     ∙ ap (λ r. r ++ (zeros (BLOCK - WINDOW) ++ rest)) (window-parts options inputs l)
-    ∙ append_assoc (opening (delimiter_number (body_of options inputs l))) (body_of options inputs l ++ behind_body options inputs l) (zeros (BLOCK - WINDOW) ++ rest)
+    ∙ append_assoc (opening options (delimiter_number (body_of options inputs l))) (body_of options inputs l ++ behind_body options inputs l) (zeros (BLOCK - WINDOW) ++ rest)
 
-pub block-begins : (options : Options) (inputs : List Taken) (l : Positions) (rest : List ℕ) → Holds (block_of options inputs l ++ rest) 0 (codes "jartsr='")
+pub block-begins : (options : Options) (inputs : List Taken) (l : Positions) (rest : List ℕ) → Holds (block_of options inputs l ++ rest) 0 (magic options)
 block-begins options inputs l rest =
-    subst (λ w. Holds w 0 (codes "jartsr='")) (sym (front-parts options inputs l rest))
-    (opening-parts (delimiter_number (body_of options inputs l)) ((body_of options inputs l ++ behind_body options inputs l) ++ (zeros (BLOCK - WINDOW) ++ rest)))
+    subst (λ w. Holds w 0 (magic options)) (sym (front-parts options inputs l rest))
+    (opening-parts options (delimiter_number (body_of options inputs l)) ((body_of options inputs l ++ behind_body options inputs l) ++ (zeros (BLOCK - WINDOW) ++ rest)))
 
 -- the body
 pub block-body : (options : Options) (inputs : List Taken) (l : Positions) (rest : List ℕ) → Holds (block_of options inputs l ++ rest) 86 (body_of options inputs l)
@@ -175,26 +216,32 @@ block-body options inputs l rest =
     let k = delimiter_number (body_of options inputs l) in
     let behind = behind_body options inputs l in
     let end = zeros (BLOCK - WINDOW) ++ rest in
-    let parts : block_of options inputs l ++ rest ≡ opening k ++ (body_of options inputs l ++ (behind ++ end)) =
-    front-parts options inputs l rest ∙ ap (λ r. opening k ++ r) (append_assoc (body_of options inputs l) behind end) in
-    subst (λ w. Holds w 86 (body_of options inputs l)) (sym parts) (holds-part (opening k) (body_of options inputs l) (behind ++ end) 86 (sym (length-opening k)))
+    let parts : block_of options inputs l ++ rest ≡ opening options k ++ (body_of options inputs l ++ (behind ++ end)) =
+    front-parts options inputs l rest ∙ ap (λ r. opening options k ++ r) (append_assoc (body_of options inputs l) behind end) in
+    subst (λ w. Holds w 86 (body_of options inputs l)) (sym parts) (holds-part (opening options k) (body_of options inputs l) (behind ++ end) 86 (sym (length-opening options k)))
 
 -- the tables
-tables-in : (options : Options) (inputs : List Taken) (l : Positions) (number : ℕ) (behind : List ℕ) → opening number ++ (body_of options inputs l ++ behind) ≡ (opening number ++ zeros 10) ++ (tables_text (placed_inputs inputs l) ++ behind)
+tables-in : (options : Options) (inputs : List Taken) (l : Positions) (number : ℕ) (behind : List ℕ)
+    → opening options number ++ (body_of options inputs l ++ behind) ≡ (opening options number ++ (zeros 10 ++ pe_text options inputs l)) ++ (tables_text (placed_inputs inputs l) ++ behind)
 unfolding body_of
 tables-in options inputs l number behind =
-    ap (λ r. opening number ++ r) (append_assoc (zeros 10) (tables_text (placed_inputs inputs l)) behind)
-    ∙ sym (append_assoc (opening number) (zeros 10) (tables_text (placed_inputs inputs l) ++ behind))
+    let tables = tables_text (placed_inputs inputs l) in
+    let pe = pe_text options inputs l in
+    ap (λ r. opening options number ++ r) (ap (λ r. r ++ behind) (sym (append_assoc (zeros 10) pe tables)) ∙ append_assoc (zeros 10 ++ pe) tables behind)
+    ∙ sym (append_assoc (opening options number) (zeros 10 ++ pe) (tables ++ behind))
 
 pub block-tables : (options : Options) (inputs : List Taken) (l : Positions) (rest : List ℕ) → Fits options inputs l → HoldsTables (block_of options inputs l ++ rest) (placed_inputs inputs l)
 block-tables options inputs l rest fits =
     let k = delimiter_number (body_of options inputs l) in
     let behind = behind_body options inputs l in
     let end = zeros (BLOCK - WINDOW) ++ rest in
-    let parts : block_of options inputs l ++ rest ≡ (opening k ++ zeros 10) ++ (tables_text (placed_inputs inputs l) ++ (behind ++ end)) =
-    front-parts options inputs l rest ∙ ap (λ r. opening k ++ r) (append_assoc (body_of options inputs l) behind end) ∙ tables-in options inputs l k (behind ++ end) in
-    let a = length-append (opening k) (zeros 10) in
-    let o = length-opening k in
+    let front = opening options k ++ (zeros 10 ++ pe_text options inputs l) in
+    let parts : block_of options inputs l ++ rest ≡ front ++ (tables_text (placed_inputs inputs l) ++ (behind ++ end)) =
+    front-parts options inputs l rest ∙ ap (λ r. opening options k ++ r) (append_assoc (body_of options inputs l) behind end) ∙ tables-in options inputs l k (behind ++ end) in
+    let a = length-append (opening options k) (zeros 10 ++ pe_text options inputs l) in
+    let b = length-append (zeros 10) (pe_text options inputs l) in
+    let p = length-pe_text options inputs l fits in
+    let o = length-opening options k in
     let z = length-zeros 10 in
     subst (λ w. HoldsTables w (placed_inputs inputs l)) (sym parts)
-    (holds-tables (new_areas BLOCK (all_areas (placed_inputs inputs l))) (tables_start options inputs) l.body_end (placed_inputs inputs l) (opening k ++ zeros 10) (behind ++ end) fits.areas fits.tables (omega arith))
+    (holds-tables (new_areas BLOCK (all_areas (placed_inputs inputs l))) (tables_start options inputs) l.body_end (placed_inputs inputs l) front (behind ++ end) fits.areas fits.tables (omega arith))

@@ -1,18 +1,29 @@
 -- The block is the file of its claims.
-use Rattle.std.proofs.Common.{◌≡◌, inl, inr, ℕ, ◌+◌, ◌-◌, List, [], ◌∷◌, ◌++◌, length, Option, Some, None, refl, sym, ap, ◌∙◌, subst, arith, length-append, append_assoc, append-nil}
+use Rattle.std.proofs.Common.{◌≡◌, inl, inr, ℕ, zero, suc, ◌+◌, ◌-◌, ◌<◌, Bool, true, false, cond, get_or, List, [], ◌∷◌, ◌++◌, length, Option, Some, None, refl, sym, ap, ◌∙◌, subst, arith, length-append, append_assoc, append-nil}
+use Rattle.std.specs.Prelude.{IsSomeAnd, codes}
+use Rattle.std.specs.Option.{is_some, option_map}
 use Rattle.ap_fields.specs.declared.sizes.TheConstants.{BLOCK, WINDOW}
-use Rattle.ap_fields.specs.Bytes.{zeros}
-use Rattle.ap_claims.specs.declared.owner.Owner.TheVariants.{Shell, Ape, Elf}
-use Rattle.ap_claims.specs.Lists.{Claim, Among, claim}
+use Rattle.ap_fields.specs.Bytes.{zeros, Holds}
+use Rattle.ap_fields.specs.Fields.{bytes_of}
+use Rattle.ap_fields.proofs.Bytes.{holds-front}
+use Rattle.ap_fields.proofs.Numbers.{length-bytes_of}
+use Rattle.ap_claims.specs.declared.owner.Owner.TheVariants.{Shell, Dos, Pe, Ape, Elf}
+use Rattle.ap_claims.specs.Lists.{Claim, Among, claim, end_of}
 use Rattle.ap_claims.specs.Files.{IsFile}
 use Rattle.ap_claims.proofs.Growing.{IsFrom, no-text, front-claim, front-zeros, no-file, joined-file, added-file, turned-file, among-either, among-front, among-behind}
 use Rattle.ap_elf.specs.declared.machine.Machine.{Machine}
 use Rattle.ap_elf.specs.declared.machine.Machine.TheVariants.{X64, A64}
 use Rattle.ap_check.specs.declared.options.Options.{Options}
+use Rattle.ap_check.specs.Options.{for_windows}
 use Rattle.ap_check.specs.Inputs.{Taken}
+use Rattle.ap_check.specs.Windows.{x64_of, MeetsWindows}
 use Rattle.ap_layout.specs.declared.layout.Area.{Area}
 use Rattle.ap_layout.specs.Areas.{new_areas}
 use Rattle.ap_layout.specs.Positions.{Positions, PlacedInput, Fits, AreServed, AreTables, all_areas, placed_inputs, tables_start, table_length}
+use Rattle.ap_layout.specs.Jobs.{placed_for}
+use Rattle.ap_pe.specs.Claims.{mark_bytes, place_bytes}
+use Rattle.ap_pe.specs.Linked.{headers_of, claims_of, headers_place, pe_text}
+use Rattle.ap_pe.proofs.LinkedHeaders.{found-in, length-pe_text}
 use Rattle.ap_script.specs.Tables.{table_text}
 use Rattle.ap_script.specs.Script.{header_for}
 use Rattle.ap_script.specs.Delimiter.{delimiter_number}
@@ -21,7 +32,7 @@ use Rattle.ap_script.specs.Stands.{statement_place}
 use Rattle.ap_script.specs.Claims.{table_claims, statement_claims, block_claims, BlockIsClaimed}
 use Rattle.ap_script.proofs.TableLengths.{length-table_text}
 use Rattle.ap_script.proofs.Openings.{parts-holds}
-use Rattle.ap_script.proofs.BlockParts.{length-block, block-begins, front-parts}
+use Rattle.ap_script.proofs.BlockParts.{length-magic_line, length-opening_line, length-block, block-begins, front-parts}
 use Rattle.ap_script.proofs.StatementPlaces.{parts-block}
 use Rattle.ap_script.proofs.Endings.{ending-long}
 
@@ -41,45 +52,123 @@ from-tables news at end (p ∷ ps) claims text served are h =
     (front-claim (claim Elf t here) (table_claims ps ++ claims) (tables_text ps ++ text)
     (subst (λ n. IsFrom n (table_claims ps ++ claims) (tables_text ps ++ text)) next later)))
 
--- the claims of the shell and of the tables, in the order of their places
-abbrev placed_claims : Options → List Taken → Positions → List Claim
-placed_claims options inputs l =
-    claim Shell 0 magic_line
-    ∷ claim Shell 64 (opening_line (delimiter_number (body_of options inputs l)))
-    ∷ (table_claims (placed_inputs inputs l) ++ (claim Shell l.body_end (ending_of options inputs l) ∷ []))
+-- ---- what is for Windows
+
+-- its claims, apart by their places, and what they do in front of claims of a text, where it was chosen or not, for the input of
+-- its machine, whose tables begin behind its headers
+record Splits (chosen : Bool) (o : Option PlacedInput) (start : ℕ) (block : List ℕ) : Type 0 where
+  pub mark : List Claim
+  pub place : List Claim
+  pub headers : List Claim
+  pub all : cond chosen (claims_of o) [] ≡ mark ++ (place ++ headers)
+  pub marked : (claims : List Claim) → IsFile BLOCK claims block → IsFile BLOCK (mark ++ claims) block
+  pub placed : (claims : List Claim) (text : List ℕ) → IsFrom 64 claims text → IsFrom 60 (place ++ claims) (cond chosen place_bytes (zeros 4) ++ text)
+  pub headed : (claims : List Claim) (text : List ℕ) → IsFrom start claims text → IsFrom 96 (headers ++ claims) (cond chosen (headers_of o) [] ++ text)
+
+splits : (chosen : Bool) (o : Option PlacedInput) (start : ℕ) (block : List ℕ) → (chosen ≡ true → is_some o ≡ true) → start ≡ 96 + length (cond chosen (headers_of o) []) → (chosen ≡ true → Holds block 0 mark_bytes)
+    → Splits chosen o start block
+splits false o start block some is mark = record {
+  mark = [];
+  place = [];
+  headers = [];
+  all = refl;
+  marked = λ claims h. h;
+  placed = λ claims text h. front-zeros 60 4 64 claims text refl h;
+  headed = λ claims text h. subst (λ n. IsFrom n claims text) is h;
+}
+splits true None start block some is mark = absurd (let e : false ≡ true = some refl in cc)
+splits true (Some p) start block some is mark =
+    let dos = claim Dos 0 mark_bytes in
+    let place = claim Dos 60 place_bytes in
+    let headers = claim Pe 96 (headers_of (Some p)) in
+    let long = length-bytes_of 4 96 in
+    record {
+      mark = dos ∷ [];
+      place = place ∷ [];
+      headers = headers ∷ [];
+      all = refl;
+      marked = λ claims h. added-file BLOCK dos claims block (mark refl) h;
+      placed = λ claims text h. front-claim place claims text (subst (λ n. IsFrom n claims text) (let e : 64 ≡ end_of place = omega arith in e) h);
+      headed = λ claims text h. front-claim headers claims text (subst (λ n. IsFrom n claims text) is h);
+    }
+
+-- the mark that Windows takes is the magic's first two bytes
+mark-first : (options : Options) (inputs : List Taken) (l : Positions) → for_windows options ≡ true → Holds (block_of options inputs l ++ []) 0 mark_bytes
+unfolding bytes_of
+mark-first options inputs l chosen =
+    let begins = block-begins options inputs l [] in
+    let is : magic options ≡ mark_bytes ++ codes "qFpD='" = rw chosen refl in
+    holds-front (block_of options inputs l ++ []) 0 mark_bytes (codes "qFpD='") (subst (Holds (block_of options inputs l ++ []) 0) is begins)
+
+some-of : (o : Option PlacedInput) (e : Option Taken) → option_map (λ p. p.input) o ≡ e → IsSomeAnd e MeetsWindows → is_some o ≡ true
+some-of None e is h = absurd (subst (λ (x : Option Taken). IsSomeAnd x MeetsWindows) (sym is) h)
+some-of (Some p) e is h = refl
+
+windows-split : (options : Options) (inputs : List Taken) (l : Positions) → Fits options inputs l
+    → Splits (for_windows options) (placed_for X64 (placed_inputs inputs l)) (tables_start options inputs) (block_of options inputs l ++ [])
+windows-split options inputs l fits =
+    let long = length-pe_text options inputs l fits in
+    splits (for_windows options) (placed_for X64 (placed_inputs inputs l)) (tables_start options inputs) (block_of options inputs l ++ [])
+    (λ chosen. some-of (placed_for X64 (placed_inputs inputs l)) (x64_of inputs) (found-in options inputs l fits).1 (fits.windows chosen))
+    (ap (λ n. 96 + n) (sym long)) (mark-first options inputs l)
+
+-- ---- the claims of all but loaders, in the order of their places
+
+abbrev placed_claims : Options → List Taken → Positions → List Claim → List Claim → List Claim
+placed_claims options inputs l place headers =
+    claim Shell 0 (magic_line options)
+    ∷ (place ++ (claim Shell 64 (opening_line (delimiter_number (body_of options inputs l)))
+    ∷ (headers ++ (table_claims (placed_inputs inputs l) ++ (claim Shell l.body_end (ending_of options inputs l) ∷ [])))))
 
 -- the second half
 no-claims : IsFrom WINDOW [] (zeros (BLOCK - WINDOW) ++ [])
 no-claims = front-zeros WINDOW (BLOCK - WINDOW) BLOCK [] [] refl (no-text BLOCK)
 
 block-texts : (options : Options) (inputs : List Taken) (l : Positions)
-    → block_of options inputs l ++ [] ≡ magic_line ++ (zeros 55 ++ (opening_line (delimiter_number (body_of options inputs l)) ++ (zeros 10 ++ (tables_text (placed_inputs inputs l) ++ (ending_of options inputs l ++ (zeros (BLOCK - WINDOW) ++ []))))))
+    → block_of options inputs l ++ []
+    ≡ magic_line options ++ (zeros 51 ++ (headers_place options ++ (opening_line (delimiter_number (body_of options inputs l))
+    ++ (zeros 10 ++ (pe_text options inputs l ++ (tables_text (placed_inputs inputs l) ++ (ending_of options inputs l ++ (zeros (BLOCK - WINDOW) ++ []))))))))
 unfolding opening body_of
 block-texts options inputs l =
     let line = opening_line (delimiter_number (body_of options inputs l)) in
+    let place = headers_place options in
+    let pe = pe_text options inputs l in
     let tables = tables_text (placed_inputs inputs l) in
     let ending = ending_of options inputs l in
     let rest = zeros (BLOCK - WINDOW) ++ [] in
+    let texts = zeros 10 ++ (pe ++ (tables ++ (ending ++ rest))) in
     front-parts options inputs l []
-    ∙ ap (λ r. (magic_line ++ (zeros 55 ++ line)) ++ r) (append_assoc (zeros 10 ++ tables) ending rest ∙ append_assoc (zeros 10) tables (ending ++ rest))
-    ∙ append_assoc magic_line (zeros 55 ++ line) (zeros 10 ++ (tables ++ (ending ++ rest)))
-    ∙ ap (λ r. magic_line ++ r) (append_assoc (zeros 55) line (zeros 10 ++ (tables ++ (ending ++ rest))))
+    ∙ ap (λ r. (magic_line options ++ (zeros 51 ++ (place ++ line))) ++ r)
+    (append_assoc (zeros 10 ++ (pe ++ tables)) ending rest ∙ append_assoc (zeros 10) (pe ++ tables) (ending ++ rest) ∙ ap (λ r. zeros 10 ++ r) (append_assoc pe tables (ending ++ rest)))
+    ∙ append_assoc (magic_line options) (zeros 51 ++ (place ++ line)) texts
+    ∙ ap (λ r. magic_line options ++ r) (append_assoc (zeros 51) (place ++ line) texts ∙ ap (λ r. zeros 51 ++ r) (append_assoc place line texts))
 
-from-block : (options : Options) (inputs : List Taken) (l : Positions) → Fits options inputs l → IsFrom 0 (placed_claims options inputs l) (block_of options inputs l ++ [])
-from-block options inputs l fits =
+from-block : (options : Options) (inputs : List Taken) (l : Positions) → Fits options inputs l
+    → (w : Splits (for_windows options) (placed_for X64 (placed_inputs inputs l)) (tables_start options inputs) (block_of options inputs l ++ []))
+    → IsFrom 0 (placed_claims options inputs l w.place w.headers) (block_of options inputs l ++ [])
+from-block options inputs l fits w =
     let line = opening_line (delimiter_number (body_of options inputs l)) in
+    let first = claim Shell 0 (magic_line options) in
+    let second = claim Shell 64 line in
     let last = claim Shell l.body_end (ending_of options inputs l) in
     let long = ending-long options inputs l fits in
-    let ending : IsFrom l.body_end (last ∷ []) (ending_of options inputs l ++ (zeros (BLOCK - WINDOW) ++ [])) =
+    let nine = length-magic_line options in
+    let behind = ending_of options inputs l ++ (zeros (BLOCK - WINDOW) ++ []) in
+    let ending : IsFrom l.body_end (last ∷ []) behind =
     front-claim last [] (zeros (BLOCK - WINDOW) ++ []) (subst (λ n. IsFrom n [] (zeros (BLOCK - WINDOW) ++ [])) (sym long) no-claims) in
-    let tables = from-tables (new_areas BLOCK (all_areas (placed_inputs inputs l))) (tables_start options inputs) l.body_end (placed_inputs inputs l) (last ∷ []) (ending_of options inputs l ++ (zeros (BLOCK - WINDOW) ++ [])) fits.areas fits.tables ending in
+    let tables = from-tables (new_areas BLOCK (all_areas (placed_inputs inputs l))) (tables_start options inputs) l.body_end (placed_inputs inputs l) (last ∷ []) behind fits.areas fits.tables ending in
     let later = table_claims (placed_inputs inputs l) ++ (last ∷ []) in
-    let texts = tables_text (placed_inputs inputs l) ++ (ending_of options inputs l ++ (zeros (BLOCK - WINDOW) ++ [])) in
-    subst (IsFrom 0 (placed_claims options inputs l)) (sym (block-texts options inputs l))
-    (front-claim (claim Shell 0 magic_line) (claim Shell 64 line ∷ later) (zeros 55 ++ (line ++ (zeros 10 ++ texts)))
-    (front-zeros 9 55 64 (claim Shell 64 line ∷ later) (line ++ (zeros 10 ++ texts)) refl
-    (front-claim (claim Shell 64 line) later (zeros 10 ++ texts)
-    (front-zeros 86 10 (tables_start options inputs) later texts refl tables))))
+    let texts = tables_text (placed_inputs inputs l) ++ behind in
+    let body = w.headed later texts tables in
+    let opened = front-claim second (w.headers ++ later) (zeros 10 ++ (pe_text options inputs l ++ texts))
+    (subst (λ n. IsFrom n (w.headers ++ later) (zeros 10 ++ (pe_text options inputs l ++ texts))) (let e : 86 ≡ end_of second = let d = length-opening_line (delimiter_number (body_of options inputs l)) in omega arith in e)
+    (front-zeros 86 10 96 (w.headers ++ later) (pe_text options inputs l ++ texts) refl body)) in
+    let place = w.placed (second ∷ (w.headers ++ later)) (line ++ (zeros 10 ++ (pe_text options inputs l ++ texts))) opened in
+    let rest = headers_place options ++ (line ++ (zeros 10 ++ (pe_text options inputs l ++ texts))) in
+    let claims = w.place ++ (second ∷ (w.headers ++ later)) in
+    subst (IsFrom 0 (placed_claims options inputs l w.place w.headers)) (sym (block-texts options inputs l))
+    (front-claim first claims (zeros 51 ++ rest)
+    (subst (λ n. IsFrom n claims (zeros 51 ++ rest)) (let e : 9 ≡ end_of first = omega arith in e) (front-zeros 9 51 60 claims rest refl place)))
 
 -- what an APE loader looks for stands in it too
 held-statement : (options : Options) (inputs : List Taken) (l : Positions) (m : Machine) (header : Option (List ℕ)) (claims : List Claim) → Fits options inputs l → header_for m (placed_inputs inputs l) ≡ header
@@ -89,67 +178,128 @@ held-statement options inputs l m (Some header) claims fits is h =
     added-file BLOCK (claim Ape (statement_place options inputs l m) _) claims (block_of options inputs l ++ [])
     (parts-holds (block_of options inputs l ++ []) (statement_place options inputs l m) header (parts-block options inputs l [] m header fits is)) h
 
--- the claims of the block are those, in the order in which they are made
-there : (c : Claim) (x y tables : List Claim) (a b d e : Claim) → Among c (a ∷ (x ++ (y ++ (b ∷ d ∷ (tables ++ (e ∷ [])))))) → Among c (tables ++ ((a ∷ (x ++ y)) ++ (b ∷ d ∷ e ∷ [])))
-there c x y tables a b d e among = elim among [
-  | inl is ↦ among-behind c tables _ (inl is)
-  | inr later ↦ elim (among-either c x _ later) [
-    | inl is ↦ among-behind c tables _ (inr (among-front c (x ++ y) _ (among-front c x y is)))
-    | inr later ↦ elim (among-either c y _ later) [
-      | inl is ↦ among-behind c tables _ (inr (among-front c (x ++ y) _ (among-behind c x y is)))
-      | inr later ↦ elim later [
-        | inl is ↦ among-behind c tables _ (inr (among-behind c (x ++ y) _ (inl is)))
-        | inr later ↦ elim later [
-          | inl is ↦ among-behind c tables _ (inr (among-behind c (x ++ y) _ (inr (inl is))))
-          | inr later ↦ elim (among-either c tables (e ∷ []) later) [
-            | inl is ↦ among-front c tables _ is
-            | inr last ↦ among-behind c tables _ (inr (among-behind c (x ++ y) _ (inr (inr last))))
-          ]
-        ]
-      ]
-    ]
-  ]
+-- ---- the same claims in another order
+
+abbrev joined : List (List Claim) → List Claim
+joined [] = []
+joined (xs ∷ parts) = xs ++ joined parts
+
+among-part : (c : Claim) (parts : List (List Claim)) (i : ℕ) → Among c (get_or parts i []) → Among c (joined parts)
+among-part c [] i h = absurd h
+among-part c (xs ∷ parts) zero h = among-front c xs (joined parts) h
+among-part c (xs ∷ parts) (suc i) h = among-behind c xs (joined parts) (among-part c parts i h)
+
+part-of : (c : Claim) (parts : List (List Claim)) → Among c (joined parts) → (i : ℕ) × (i < length parts) × Among c (get_or parts i [])
+part-of c [] h = absurd h
+part-of c (xs ∷ parts) h = elim (among-either c xs (joined parts) h) [
+  | inl here ↦ (0, omega arith, here)
+  | inr later ↦ (let rest = part-of c parts later in let i : ℕ = rest.0 in let low = rest.1 in (suc i, omega arith, rest.2))
 ]
 
-back : (c : Claim) (x y tables : List Claim) (a b d e : Claim) → Among c (tables ++ ((a ∷ (x ++ y)) ++ (b ∷ d ∷ e ∷ []))) → Among c (a ∷ (x ++ (y ++ (b ∷ d ∷ (tables ++ (e ∷ []))))))
-back c x y tables a b d e among = elim (among-either c tables _ among) [
-  | inl is ↦ inr (among-behind c x _ (among-behind c y _ (inr (inr (among-front c tables _ is)))))
-  | inr later ↦ elim later [
-    | inl is ↦ inl is
-    | inr later ↦ elim (among-either c (x ++ y) _ later) [
-      | inl statement ↦ elim (among-either c x y statement) [
-        | inl is ↦ inr (among-front c x _ is)
-        | inr is ↦ inr (among-behind c x _ (among-front c y _ is))
-      ]
-      | inr later ↦ elim later [
-        | inl is ↦ inr (among-behind c x _ (among-behind c y _ (inl is)))
-        | inr later ↦ elim later [
-          | inl is ↦ inr (among-behind c x _ (among-behind c y _ (inr (inl is))))
-          | inr last ↦ inr (among-behind c x _ (among-behind c y _ (inr (inr (among-behind c tables _ last)))))
-        ]
-      ]
-    ]
-  ]
-]
+-- parts that stand in the other list too
+turned : (xs ys : List (List Claim)) (place : ℕ → ℕ) → ((i : ℕ) → i < length xs → get_or xs i [] ≡ get_or ys (place i) []) → (c : Claim) → Among c (joined xs) → Among c (joined ys)
+turned xs ys place same c h =
+    let found = part-of c xs h in
+    let i : ℕ = found.0 in
+    among-part c ys (place i) (subst (Among c) (same i found.1) found.2)
+
+-- the parts in the order of the proof, and in that in which they are made
+abbrev by_proof : Claim → Claim → Claim → Claim → List Claim → List Claim → List Claim → List Claim → List Claim → List Claim → List (List Claim)
+by_proof a b d e x y mark place headers tables = (a ∷ []) ∷ x ∷ y ∷ mark ∷ (b ∷ []) ∷ place ∷ (d ∷ []) ∷ headers ∷ tables ∷ (e ∷ []) ∷ []
+
+abbrev by_writers : Claim → Claim → Claim → Claim → List Claim → List Claim → List Claim → List Claim → List Claim → List Claim → List (List Claim)
+by_writers a b d e x y mark place headers tables = mark ∷ place ∷ headers ∷ tables ∷ (a ∷ []) ∷ x ∷ y ∷ (b ∷ []) ∷ (d ∷ []) ∷ (e ∷ []) ∷ []
+
+there : ℕ → ℕ
+there zero = 4
+there (suc zero) = 5
+there (suc (suc zero)) = 6
+there (suc (suc (suc zero))) = 0
+there (suc (suc (suc (suc zero)))) = 7
+there (suc (suc (suc (suc (suc zero))))) = 1
+there (suc (suc (suc (suc (suc (suc zero)))))) = 8
+there (suc (suc (suc (suc (suc (suc (suc zero))))))) = 2
+there (suc (suc (suc (suc (suc (suc (suc (suc zero)))))))) = 3
+there (suc (suc (suc (suc (suc (suc (suc (suc (suc i))))))))) = 9
+
+same-there : (a b d e : Claim) (x y mark place headers tables : List Claim) (i : ℕ) → i < 10
+    → get_or (by_proof a b d e x y mark place headers tables) i [] ≡ get_or (by_writers a b d e x y mark place headers tables) (there i) []
+unfolding there
+same-there a b d e x y mark place headers tables zero low = refl
+same-there a b d e x y mark place headers tables (suc zero) low = refl
+same-there a b d e x y mark place headers tables (suc (suc zero)) low = refl
+same-there a b d e x y mark place headers tables (suc (suc (suc zero))) low = refl
+same-there a b d e x y mark place headers tables (suc (suc (suc (suc zero)))) low = refl
+same-there a b d e x y mark place headers tables (suc (suc (suc (suc (suc zero))))) low = refl
+same-there a b d e x y mark place headers tables (suc (suc (suc (suc (suc (suc zero)))))) low = refl
+same-there a b d e x y mark place headers tables (suc (suc (suc (suc (suc (suc (suc zero))))))) low = refl
+same-there a b d e x y mark place headers tables (suc (suc (suc (suc (suc (suc (suc (suc zero)))))))) low = refl
+same-there a b d e x y mark place headers tables (suc (suc (suc (suc (suc (suc (suc (suc (suc zero))))))))) low = refl
+same-there a b d e x y mark place headers tables (suc (suc (suc (suc (suc (suc (suc (suc (suc (suc i)))))))))) low = absurd (omega arith)
+
+back : ℕ → ℕ
+back zero = 3
+back (suc zero) = 5
+back (suc (suc zero)) = 7
+back (suc (suc (suc zero))) = 8
+back (suc (suc (suc (suc zero)))) = 0
+back (suc (suc (suc (suc (suc zero))))) = 1
+back (suc (suc (suc (suc (suc (suc zero)))))) = 2
+back (suc (suc (suc (suc (suc (suc (suc zero))))))) = 4
+back (suc (suc (suc (suc (suc (suc (suc (suc zero)))))))) = 6
+back (suc (suc (suc (suc (suc (suc (suc (suc (suc i))))))))) = 9
+
+same-back : (a b d e : Claim) (x y mark place headers tables : List Claim) (i : ℕ) → i < 10
+    → get_or (by_writers a b d e x y mark place headers tables) i [] ≡ get_or (by_proof a b d e x y mark place headers tables) (back i) []
+unfolding back
+same-back a b d e x y mark place headers tables zero low = refl
+same-back a b d e x y mark place headers tables (suc zero) low = refl
+same-back a b d e x y mark place headers tables (suc (suc zero)) low = refl
+same-back a b d e x y mark place headers tables (suc (suc (suc zero))) low = refl
+same-back a b d e x y mark place headers tables (suc (suc (suc (suc zero)))) low = refl
+same-back a b d e x y mark place headers tables (suc (suc (suc (suc (suc zero))))) low = refl
+same-back a b d e x y mark place headers tables (suc (suc (suc (suc (suc (suc zero)))))) low = refl
+same-back a b d e x y mark place headers tables (suc (suc (suc (suc (suc (suc (suc zero))))))) low = refl
+same-back a b d e x y mark place headers tables (suc (suc (suc (suc (suc (suc (suc (suc zero)))))))) low = refl
+same-back a b d e x y mark place headers tables (suc (suc (suc (suc (suc (suc (suc (suc (suc zero))))))))) low = refl
+same-back a b d e x y mark place headers tables (suc (suc (suc (suc (suc (suc (suc (suc (suc (suc i)))))))))) low = absurd (omega arith)
+
+writers-are : (a b d e : Claim) (x y mark place headers tables : List Claim)
+    → joined (by_writers a b d e x y mark place headers tables) ≡ (mark ++ (place ++ headers)) ++ (tables ++ ((a ∷ (x ++ y)) ++ (b ∷ d ∷ e ∷ [])))
+writers-are a b d e x y mark place headers tables =
+    let shell = b ∷ d ∷ e ∷ [] in
+    let ape = a ∷ (x ++ y) in
+    sym (append_assoc mark (place ++ headers) (tables ++ (ape ++ shell))
+    ∙ ap (λ r. mark ++ r) (append_assoc place headers (tables ++ (ape ++ shell)))
+    ∙ ap (λ r. mark ++ (place ++ (headers ++ (tables ++ (a ∷ r))))) (append_assoc x y shell))
 
 pub block-claimed : BlockIsClaimed
 block-claimed options inputs l fits =
     let block = block_of options inputs l ++ [] in
+    let w = windows-split options inputs l fits in
     let x64 = header_for X64 (placed_inputs inputs l) in
     let a64 = header_for A64 (placed_inputs inputs l) in
     let x = statement_claims x64 (statement_place options inputs l X64) in
     let y = statement_claims a64 (statement_place options inputs l A64) in
     let tables = table_claims (placed_inputs inputs l) in
-    let number = delimiter_number (body_of options inputs l) in
-    let a = claim Ape 0 magic in
-    let b = claim Shell 0 magic_line in
-    let d = claim Shell 64 (opening_line number) in
+    let a = claim Ape 0 (magic options) in
+    let b = claim Shell 0 (magic_line options) in
+    let d = claim Shell 64 (opening_line (delimiter_number (body_of options inputs l))) in
     let e = claim Shell l.body_end (ending_of options inputs l) in
     let long = length-block options inputs l fits in
     let whole = length-append (block_of options inputs l) [] in
-    let placed : IsFile BLOCK (placed_claims options inputs l) block = joined-file 0 BLOCK [] (placed_claims options inputs l) [] block no-file (from-block options inputs l fits) (omega arith) in
-    let second = held-statement options inputs l A64 a64 (placed_claims options inputs l) fits refl placed in
-    let first = held-statement options inputs l X64 x64 (y ++ placed_claims options inputs l) fits refl second in
-    let all = added-file BLOCK a (x ++ (y ++ placed_claims options inputs l)) block (block-begins options inputs l []) first in
+    let claims = placed_claims options inputs l w.place w.headers in
+    let placed : IsFile BLOCK claims block = joined-file 0 BLOCK [] claims [] block no-file (from-block options inputs l fits w) (omega arith) in
+    let marked = w.marked claims placed in
+    let second = held-statement options inputs l A64 a64 (w.mark ++ claims) fits refl marked in
+    let first = held-statement options inputs l X64 x64 (y ++ (w.mark ++ claims)) fits refl second in
+    let all = added-file BLOCK a (x ++ (y ++ (w.mark ++ claims))) block (block-begins options inputs l []) first in
+    let proof = by_proof a b d e x y w.mark w.place w.headers tables in
+    let writers = by_writers a b d e x y w.mark w.place w.headers tables in
+    let are : joined writers ≡ block_claims options inputs l =
+    writers-are a b d e x y w.mark w.place w.headers tables ∙ ap (λ r. r ++ (tables ++ ((a ∷ (x ++ y)) ++ (b ∷ d ∷ e ∷ [])))) (sym w.all) in
     subst (IsFile BLOCK (block_claims options inputs l)) (append-nil (block_of options inputs l))
-    (turned-file BLOCK (a ∷ (x ++ (y ++ placed_claims options inputs l))) (block_claims options inputs l) block (λ c. there c x y tables a b d e) (λ c. back c x y tables a b d e) all)
+    (subst (λ (claims : List Claim). IsFile BLOCK claims block) are
+    (turned-file BLOCK (joined proof) (joined writers) block
+    (turned proof writers there (same-there a b d e x y w.mark w.place w.headers tables))
+    (turned writers proof back (same-back a b d e x y w.mark w.place w.headers tables)) all))

@@ -48,10 +48,10 @@ unfolding shell_text
 length-shell_text options inputs l fits =
     let number = delimiter_number (body_of options inputs l) in
     let script = script_for options inputs l in
-    let a = length-append (Rattle.ap_script.specs.Blocks.opening number) (body_of options inputs l ++ (closing number ++ script)) in
+    let a = length-append (Rattle.ap_script.specs.Blocks.opening options number) (body_of options inputs l ++ (closing number ++ script)) in
     let b = length-append (body_of options inputs l) (closing number ++ script) in
     let c = length-append (closing number) script in
-    let o = length-opening number in
+    let o = length-opening options number in
     let d = length-body options inputs l fits in
     let e = length-closing number in
     omega arith

@@ -88,23 +88,23 @@ marked-behind options inputs l fits =
     (marked-script (IsBlank x y start) at options.systems x y skip count fill (small-units options inputs l fits) (no_quote-spaces (WINDOW - length (shell_text options inputs l)))
     (marks-x64 x y start lines same) (marks-a64 x y start lines same))
 
-none-opening : (number k : ℕ) → Holds (opening number) k word → ⊥
-none-opening number k h = marks-hold (λ i. ⊥) 0 (opening number) k (marks-clear (λ i. ⊥) 0 (opening number) (clear-opening number)) h
+none-opening : (options : Options) (number k : ℕ) → Holds (opening options number) k word → ⊥
+none-opening options number k h = marks-hold (λ i. ⊥) 0 (opening options number) k (marks-clear (λ i. ⊥) 0 (opening options number) (clear-opening options number)) h
 
 holds-places : (options : Options) (inputs : List Taken) (l : Positions) (k : ℕ) → All Meets inputs → Fits options inputs l → Holds (window_text options inputs l) k word → Contains (statement_places options inputs l) k
 holds-places options inputs l k meets fits h =
     let number = delimiter_number (body_of options inputs l) in
     let body = body_of options inputs l in
     let behind = behind_body options inputs l in
-    let o = length-opening number in
+    let o = length-opening options number in
     let b = length-body options inputs l fits in
-    let split : Holds (opening number ++ (body ++ behind)) k word = subst (λ w. Holds w k word) (window-parts options inputs l) h in
-    elim (parted (opening number) (body ++ behind) k (apart-zero (body ++ behind) (starts-body options inputs l behind)) split) [
-      | inl front ↦ absurd (none-opening number k front)
-      | inr (past, later) ↦ elim (parted body behind (k - length (opening number)) (apart-newline behind (starts-closing number (script_for options inputs l ++ spaces (WINDOW - length (shell_text options inputs l))))) later) [
-        | inl inside ↦ absurd (not-in-zeros body (k - length (opening number)) (body-zeros options inputs l meets fits) inside)
+    let split : Holds (opening options number ++ (body ++ behind)) k word = subst (λ w. Holds w k word) (window-parts options inputs l) h in
+    elim (parted (opening options number) (body ++ behind) k (apart-zero (body ++ behind) (starts-body options inputs l behind)) split) [
+      | inl front ↦ absurd (none-opening options number k front)
+      | inr (past, later) ↦ elim (parted body behind (k - length (opening options number)) (apart-newline behind (starts-closing number (script_for options inputs l ++ spaces (WINDOW - length (shell_text options inputs l))))) later) [
+        | inl inside ↦ absurd (not-in-zeros body (k - length (opening options number)) (body-zeros options inputs l meets fits) inside)
         | inr (beyond, last) ↦
-            (let i : ℕ = k - length (opening number) - length body in
+            (let i : ℕ = k - length (opening options number) - length body in
             marks-hold (IsBlank (header_for X64 (placed_inputs inputs l)) (header_for A64 (placed_inputs inputs l)) (machines_start options inputs l)) l.body_end behind i
             (marked-behind options inputs l fits).marks last k (omega arith))
       ]
@@ -126,13 +126,13 @@ parts-script options inputs l place header fits p =
     let body = body_of options inputs l in
     let script = script_for options inputs l in
     let fill = spaces (WINDOW - length (shell_text options inputs l)) in
-    let o = length-opening number in
+    let o = length-opening options number in
     let b = length-body options inputs l fits in
     let c = length-closing number in
-    let where_is : length (opening number) + (length body + (length (closing number) + place)) ≡ l.body_end + (17 + place) = omega arith in
+    let where_is : length (opening options number) + (length body + (length (closing number) + place)) ≡ l.body_end + (17 + place) = omega arith in
     subst (λ w. Parts w (l.body_end + (17 + place)) header) (sym (window-parts options inputs l))
-    (subst (λ n. Parts (opening number ++ (body ++ (closing number ++ (script ++ fill)))) n header) where_is
-    (parts-behind (opening number) (body ++ (closing number ++ (script ++ fill))) (length body + (length (closing number) + place)) header
+    (subst (λ n. Parts (opening options number ++ (body ++ (closing number ++ (script ++ fill)))) n header) where_is
+    (parts-behind (opening options number) (body ++ (closing number ++ (script ++ fill))) (length body + (length (closing number) + place)) header
     (parts-behind body (closing number ++ (script ++ fill)) (length (closing number) + place) header
     (parts-behind (closing number) (script ++ fill) place header (parts-front script fill place header p)))))
 

@@ -12,7 +12,7 @@ use Rattle.ap_fields.specs.Fields.{bytes_of}
 use Rattle.ap_fields.specs.Bytes.{zeros}
 use Rattle.ap_fields.specs.Granules.{floor_of, ceil_of}
 use Rattle.ap_fields.specs.declared.sizes.TheConstants.{BLOCK}
-use Rattle.ap_fields.proofs.Bytes.{length-zeros, get_or-zeros}
+use Rattle.ap_fields.proofs.Sparse.{Sparse, zeros-some, zeros-from}
 use Rattle.ap_elf.specs.declared.types.Entry.{Entry}
 use Rattle.ap_elf.specs.Written.{entry_bytes, table_bytes}
 use Rattle.ap_elf.proofs.ReadBack.{length-entry_bytes}
@@ -26,6 +26,8 @@ use Rattle.ap_layout.specs.declared.layout.Area.{Area}
 use Rattle.ap_layout.specs.declared.sizes.TheConstants.{FILE_TOP}
 use Rattle.ap_layout.specs.Areas.{new_areas}
 use Rattle.ap_layout.specs.Positions.{Positions, Fits, entry_count, PlacedInput, AreServed, all_areas, only_inputs, placed_inputs}
+use Rattle.ap_pe.specs.Linked.{pe_text}
+use Rattle.ap_pe.proofs.LinkedHeaders.{pe_text-sparse}
 use Rattle.ap_script.specs.Tables.{load_entry, load_entries, stack_entries, is_backed, place_of, note_entry, tls_entries, table_of, table_text}
 use Rattle.ap_script.specs.Blocks.{tables_text, body_of}
 use Rattle.ap_script.specs.Stands.{HasZeros}
@@ -237,24 +239,42 @@ eighths-tables news (p ∷ ps) meets known served =
 
 -- ---- the body
 
-zeros-by : (text : List ℕ) → Eighths text → HasZeros (zeros 10 ++ text)
-zeros-by text h k fits =
-    elim (cases_lt k 10) [
-      | inl front ↦
-          (let long = length-zeros 10 in
-          let here : k + 0 ≡ k = omega arith in
-          (0, omega arith, ap (λ i. get_or (zeros 10 ++ text) i 0) here ∙ get_or_append_left (zeros 10) text 0 k (omega arith) ∙ get_or-zeros 10 k))
-      | inr past ↦
-          (let i : ℕ = 7 - (k - 10) % 8 in
-          let place : k + i - 10 ≡ 8 * ((k - 10) / 8) + 7 = omega arith in (
-            i,
-            omega arith,
-            get_or-append_right (zeros 10) text 10 (k + i) 0 (length-zeros 10) (omega arith) ∙ ap (λ n. get_or text n 0) place ∙ h ((k - 10) / 8),
-          ))
-    ]
+-- texts with a zero at a place and at each eighth behind it
+sparse-eighths : (c j : ℕ) (text : List ℕ) → c + j ≤ 7 → ((i : ℕ) → get_or text (8 * i + j) 0 ≡ 0) → Sparse c text
+sparse-eighths c j [] few h = tt
+sparse-eighths c zero (b ∷ text) few h =
+    inl (h 0, sparse-eighths 0 7 text (omega arith) (λ i. ap (λ k. get_or (b ∷ text) k 0) (let e : suc (8 * i + 7) ≡ 8 * suc i + 0 = omega arith in e) ∙ h (suc i)))
+sparse-eighths c (suc j) (b ∷ text) few h =
+    inr (omega arith, sparse-eighths (c + 1) j text (omega arith) (λ i. ap (λ k. get_or (b ∷ text) k 0) (let e : suc (8 * i + j) ≡ 8 * i + suc j = omega arith in e) ∙ h i))
+
+-- those whose second byte is zero, too
+sparse-second : (text : List ℕ) → get_or text 1 0 ≡ 0 → Eighths text → Sparse 2 text
+sparse-second [] second h = tt
+sparse-second (a ∷ []) second h = inr (omega arith, tt)
+sparse-second (a ∷ b ∷ text) second h =
+    inr (omega arith, inl (second, sparse-eighths 0 5 text (omega arith) (λ i. ap (λ k. get_or (a ∷ b ∷ text) k 0) (let e : suc (suc (8 * i + 5)) ≡ 8 * i + 7 = omega arith in e) ∙ h i)))
+
+-- the first entry of a table is a load, whose type has one byte
+first-type : (g : ℕ) (loads : List Load) (areas : List Area) (more : List Entry) (rest : List ℕ) → 0 < length loads → length areas ≡ length loads → get_or (table_bytes (load_entries g loads areas ++ more) ++ rest) 1 0 ≡ 0
+unfolding table_bytes entry_bytes bytes_of
+first-type g [] areas more rest some same = absurd (omega arith)
+first-type g (p ∷ loads) [] more rest some same = absurd (omega arith)
+first-type g (p ∷ loads) (x ∷ areas) more rest some same = refl
+
+tables-second : (ps : List PlacedInput) → All Meets (only_inputs ps) → All IsKnown ps → get_or (tables_text ps) 1 0 ≡ 0
+unfolding table_of
+tables-second [] meets known = refl
+tables-second (p ∷ ps) meets known =
+    let e : Taken = p.input in
+    first-type (granule_of e.machine) e.loads p.areas _ (tables_text ps) (meets 0 e (omega arith)).some (known 0 p (omega arith)).same
 
 pub body-zeros : (options : Options) (inputs : List Taken) (l : Positions) → All Meets inputs → Fits options inputs l → HasZeros (body_of options inputs l)
 unfolding body_of
 body-zeros options inputs l meets fits =
     let ps = placed_inputs inputs l in
-    zeros-by (tables_text ps) (eighths-tables (new_areas BLOCK (all_areas ps)) ps (subst (All Meets) (sym fits.all) meets) (fits-known options inputs l fits) fits.areas)
+    let tables = tables_text ps in
+    let all = subst (All Meets) (sym fits.all) meets in
+    let known = fits-known options inputs l fits in
+    let sparse = sparse-second tables (tables-second ps all known) (eighths-tables (new_areas BLOCK (all_areas ps)) ps all known fits.areas) in
+    zeros-from 0 (zeros 10 ++ (pe_text options inputs l ++ tables)) (omega arith)
+    (zeros-some 0 9 (pe_text options inputs l ++ tables) (pe_text-sparse options inputs l tables meets fits sparse))

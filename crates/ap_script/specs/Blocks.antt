@@ -1,40 +1,43 @@
--- The block of a linked file, its first 16384 bytes: a shell script that holds the program header tables as the body of a
--- here-document, and an empty second half.
-use Rattle.std.specs.Prelude.{ℕ, ◌-◌, ◌/◌, List, ◌++◌, length, replicate, codes}
+-- The block of a linked file, its first 16384 bytes: a shell script that holds the PE headers and the program header tables as the
+-- body of a here-document, and an empty second half.
+use Rattle.std.specs.Prelude.{ℕ, ◌-◌, ◌/◌, if◌then◌else◌, List, ◌++◌, length, replicate, codes}
 use Rattle.std.specs.List.{flat_map}
 use Rattle.ap_fields.specs.declared.sizes.TheConstants.{BLOCK, WINDOW}
 use Rattle.ap_fields.specs.Bytes.{zeros}
 use Rattle.ap_elf.specs.declared.machine.Machine.TheVariants.{X64, A64}
 use Rattle.ap_check.specs.declared.options.Options.{Options}
+use Rattle.ap_check.specs.Options.{for_windows}
 use Rattle.ap_check.specs.Inputs.{Taken}
 use Rattle.ap_layout.specs.Positions.{Positions, PlacedInput, placed_inputs}
+use Rattle.ap_pe.specs.Linked.{headers_place, pe_text}
 use Rattle.ap_script.specs.Delimiter.{delimiter, delimiter_number}
 use Rattle.ap_script.specs.Tables.{table_text}
 use Rattle.ap_script.specs.Script.{script_of, header_for}
 
--- what an APE loader looks for at a file's start
-abbrev pub magic : List ℕ
-magic = codes "jartsr='"
+-- what an APE loader looks for at a file's start (APE specification): the mark that Windows takes too, that for debuggers, or that
+-- of a script alone
+abbrev pub magic : Options → List ℕ
+magic options = if for_windows options then codes "MZqFpD='" else (if options.debug then codes "APEDBG='" else codes "jartsr='")
 
 -- the line that the magic begins
-abbrev pub magic_line : List ℕ
-magic_line = codes "jartsr='\n"
+abbrev pub magic_line : Options → List ℕ
+magic_line options = magic options ++ codes "\n"
 
 -- the end of the line that opens the here-document
 abbrev pub opening_line : ℕ → List ℕ
 opening_line number = codes "' <<'" ++ (delimiter number ++ codes "'\n")
 
--- bytes 0 to 85: an assignment, whose text holds zeros, with a here-document behind it
-unfoldable pub opening : ℕ → List ℕ
-opening number = magic_line ++ (zeros 55 ++ opening_line number)
+-- bytes 0 to 85: an assignment, whose text holds zeros and where the PE headers stand, with a here-document behind it
+unfoldable pub opening : Options → ℕ → List ℕ
+opening options number = magic_line options ++ (zeros 51 ++ (headers_place options ++ opening_line number))
 
 -- the program header tables of some inputs, one behind the other
 abbrev pub tables_text : List PlacedInput → List ℕ
 tables_text ps = flat_map (λ p. table_text p.input p.areas) ps
 
--- the here-document's body, from 86 on: zeros up to 96, where the tables stand
+-- the here-document's body, from 86 on: zeros up to 96, the PE headers, and the tables
 unfoldable pub body_of : Options → List Taken → Positions → List ℕ
-body_of options inputs l = zeros 10 ++ tables_text (placed_inputs inputs l)
+body_of options inputs l = zeros 10 ++ (pe_text options inputs l ++ tables_text (placed_inputs inputs l))
 
 -- the line that ends the here-document
 unfoldable pub closing : ℕ → List ℕ
@@ -47,7 +50,7 @@ script_for options inputs l = script_of options.systems (header_for X64 (placed_
 unfoldable pub shell_text : Options → List Taken → Positions → List ℕ
 shell_text options inputs l =
     let number = delimiter_number (body_of options inputs l) in
-    opening number ++ (body_of options inputs l ++ (closing number ++ script_for options inputs l))
+    opening options number ++ (body_of options inputs l ++ (closing number ++ script_for options inputs l))
 
 unfoldable pub spaces : ℕ → List ℕ
 spaces n = replicate n 32

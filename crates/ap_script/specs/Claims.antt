@@ -9,6 +9,7 @@ use Rattle.ap_elf.specs.declared.machine.Machine.TheVariants.{X64, A64}
 use Rattle.ap_check.specs.declared.options.Options.{Options}
 use Rattle.ap_check.specs.Inputs.{Taken}
 use Rattle.ap_layout.specs.Positions.{Positions, PlacedInput, placed_inputs, Fits}
+use Rattle.ap_pe.specs.Linked.{windows_claims}
 use Rattle.ap_script.specs.Tables.{table_text}
 use Rattle.ap_script.specs.Script.{header_for}
 use Rattle.ap_script.specs.Delimiter.{delimiter_number}
@@ -27,14 +28,14 @@ statement_claims (Some header) place = claim Ape place (statement_of header) ∷
 -- what an APE loader looks for
 abbrev pub ape_claims : Options → List Taken → Positions → List Claim
 ape_claims options inputs l =
-    claim Ape 0 magic
+    claim Ape 0 (magic options)
     ∷ (statement_claims (header_for X64 (placed_inputs inputs l)) (statement_place options inputs l X64)
     ++ statement_claims (header_for A64 (placed_inputs inputs l)) (statement_place options inputs l A64))
 
 -- the script, and what makes a shell skip the body
 abbrev pub shell_claims : Options → List Taken → Positions → List Claim
 shell_claims options inputs l =
-    claim Shell 0 magic_line
+    claim Shell 0 (magic_line options)
     ∷ claim Shell 64 (opening_line (delimiter_number (body_of options inputs l)))
     ∷ claim Shell l.body_end (ending_of options inputs l)
     ∷ []
@@ -43,7 +44,7 @@ abbrev pub script_claims : Options → List Taken → Positions → List Claim
 script_claims options inputs l = ape_claims options inputs l ++ shell_claims options inputs l
 
 abbrev pub block_claims : Options → List Taken → Positions → List Claim
-block_claims options inputs l = table_claims (placed_inputs inputs l) ++ script_claims options inputs l
+block_claims options inputs l = windows_claims options inputs l ++ (table_claims (placed_inputs inputs l) ++ script_claims options inputs l)
 
 -- the block is the file of its claims
 abbrev pub BlockIsClaimed : Type 0

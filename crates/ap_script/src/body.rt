@@ -15,9 +15,10 @@ use crate::text::{Text, push_text};
 use ap_check::{Input, Job};
 use ap_elf::{Entry, entry_bytes};
 use ap_layout::{Area, Layout, input_count, placed_input};
+use ap_pe::pe_text;
 use arrayvec::ArrayVec;
 
-/// The body: zeros up to byte 96 of the linked file, and a program header table for each input.
+/// The body: zeros up to byte 96 of the linked file, the PE headers, and a program header table for each input.
 pub(crate) fn body(job: &Job<'_>, lay: &Layout) -> Text
     requires { Fits job.now.options (job_inputs job.now) lay.now }
     ensures items { result.items ≡ body_of job.now.options (job_inputs job.now) lay.now }
@@ -25,6 +26,7 @@ pub(crate) fn body(job: &Job<'_>, lay: &Layout) -> Text
 {
     let mut body = ArrayVec::new();
     push_zeros(&mut body);
+    push_text(&mut body, &pe_text(job, lay));
     for i in 0..input_count(job) {
         let p = placed_input(job, lay, i);
         push_table(&mut body, p.input, p.areas);

@@ -1,5 +1,5 @@
 // What holds of the block of a linked file, by its definitions.
-ghost use Rattle.std.specs.Prelude.{◌≡◌, ◌+◌, ◌<◌, ◌≤◌, ◌++◌, ◌↔◌, ℕ, List, length, codes, All, Contains};
+ghost use Rattle.std.specs.Prelude.{◌≡◌, ◌+◌, ◌<◌, ◌≤◌, ◌++◌, ◌↔◌, ℕ, List, length, All, Contains};
 ghost use Rattle.ap_fields.specs.declared.sizes.TheConstants.{BLOCK, WINDOW};
 ghost use Rattle.ap_fields.specs.Bytes.{Holds};
 ghost use Rattle.ap_octal.specs.Embedded.{Opens, Embeds};
@@ -15,7 +15,7 @@ ghost use Rattle.ap_layout.specs.Areas.{ServeAll};
 ghost use Rattle.ap_layout.specs.Positions.{Positions, PlacedInput, placed_inputs, Fits, table_length};
 ghost use Rattle.ap_script.specs.Tables.{embedded_bytes, table_text};
 ghost use Rattle.ap_script.specs.Delimiter.{delimiter_number};
-ghost use Rattle.ap_script.specs.Blocks.{body_of, shell_text, block_of};
+ghost use Rattle.ap_script.specs.Blocks.{magic, body_of, shell_text, block_of};
 ghost use Rattle.ap_script.specs.Claims.{BlockIsClaimed};
 ghost use Rattle.ap_script.specs.Stands.{MachinesDiffer, IsOneOf, HoldsTables, HasZeros, HasFreeDelimiter, statement_place, statement_places};
 
@@ -46,7 +46,7 @@ pub fn blocks_are_claimed()
 /// body from 86 on and each program header table at its place.
 pub fn blocks_hold_tables()
     ensures begins { (options : Options) (inputs : List Taken) (l : Positions) (rest : List ℕ)
-        → Holds (block_of options inputs l ++ rest) 0 (codes "jartsr='") }
+        → Holds (block_of options inputs l ++ rest) 0 (magic options) }
     ensures body { (options : Options) (inputs : List Taken) (l : Positions) (rest : List ℕ)
         → Holds (block_of options inputs l ++ rest) OPENING (body_of options inputs l) }
     ensures tables { (options : Options) (inputs : List Taken) (l : Positions) (rest : List ℕ)
