@@ -1,6 +1,7 @@
 pub mod Fetching
 pub mod ImportNames
 pub mod WalkLemmas
+pub mod ShownBytes
 pub mod RegionBytes
 pub mod RegionCells
 pub mod Totals

@@ -6,3 +6,4 @@ pub mod Cells
 pub mod ImportWalk
 pub mod WalkSteps
 pub mod WalkBounds
+pub mod PlanCells
