@@ -30,7 +30,11 @@ pub record Unreadable (old new : CellsState) : Type 0 where
   pub faults : Rose old.faults new.faults
   pub others : new.others ≡ old.others
 
--- the byte at an address, where bytes are told, and the state is as before; or it could not be read
+-- a value that the bytes have, where they are told, and the state is as before; or a byte could not be read
+abbrev pub Tells : {T : Type 0} → CellsState → CellsState → (Memory → T → Type 0) → Result T Failed → Type 0
+Tells old new P (Ok value) = (new ≡ old) × ((memory : Memory) → old.told ≡ Some memory → P memory value)
+Tells old new P (Err failed) = Unreadable old new
+
+-- the byte at an address
 abbrev pub Shows : CellsState → CellsState → ℕ → Result (Option ℕ) Failed → Type 0
-Shows old new a (Ok byte) = (new ≡ old) × ((memory : Memory) → old.told ≡ Some memory → memory a ≡ byte)
-Shows old new a (Err failed) = Unreadable old new
+Shows old new a result = Tells old new (λ memory byte. memory a ≡ byte) result

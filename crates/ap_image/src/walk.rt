@@ -1,7 +1,7 @@
 // The walk of an import directory.
 ghost use Rattle.std.specs.Prelude.{◌≡◌, ◌≢◌, ◌<◌, ◌≤◌, ◌+◌, ◌*◌, ◌^◌, ℕ, IfOk, IfSome, None};
 ghost use Rattle.std.specs.Option.{ForSome};
-ghost use Rattle.ap_image.specs.Cells.{Memory};
+ghost use Rattle.ap_image.specs.Cells.{Memory, Tells};
 ghost use Rattle.ap_image.specs.ImportWalk as spec;
 ghost use Rattle.ap_image.specs.ImportWalk.{found, entry_found, items_of};
 ghost use Rattle.ap_image.specs.WalkSteps as steps;
@@ -14,6 +14,7 @@ use crate::import_place::{
 };
 use crate::import_read::{check_name, entry_at, word_at};
 use crate::import_step::{Ending, Step, WalkCause, WalkEnd, WalkFault, What};
+use ap_files::Failed;
 use std::marker::Model;
 
 /// A walk of the import directory of a program in memory (PE/COFF, "The .idata Section"): its import directory table, and
@@ -87,6 +88,23 @@ impl Walk {
                 Err(WalkEnd::Fault(fault))
             }
             Err(WalkEnd::ReadFault) => Err(WalkEnd::ReadFault),
+        }
+    }
+
+    /// How the walk ends, behind all items that are left.
+    ///
+    /// `Failed`: a byte could not be read.
+    pub fn ending<C: Cells>(mut self, cells: &mut C) -> Result<Ending, Failed>
+        ensures { Tells (C.state cells.old) (C.state cells.new)
+            (λ memory ending. (left_of memory self).ending ≡ ending) result }
+    {
+        loop {
+            match self.step(cells) {
+                Ok(Step::Done) => return Ok(Ending::Done),
+                Ok(_) => {}
+                Err(WalkEnd::Fault(fault)) => return Ok(Ending::Fault(fault)),
+                Err(WalkEnd::ReadFault) => return Err(Failed),
+            }
         }
     }
 
