@@ -6,3 +6,4 @@ pub mod WaysOut
 pub mod Pairs
 pub mod Prefixes
 pub mod Laws
+pub mod ImportLemmas

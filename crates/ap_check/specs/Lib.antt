@@ -4,3 +4,5 @@ pub mod Rules
 pub mod Bare
 pub mod Ends
 pub mod Both
+pub mod ImportRule
+pub mod InputPlans

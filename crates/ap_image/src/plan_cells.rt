@@ -29,17 +29,17 @@ impl Cells for PlanCells<'_> {
 
 /// The bytes that a plan shows of a file by its name.
 #[derive(Drop)]
-pub struct FileCells<'a, F: Files> {
-    pub files: &'a mut F,
-    pub name: &'a str,
-    pub plan: &'a Plan,
+pub struct FileCells<'f, 'n, 'p, F: Files> {
+    pub files: &'f mut F,
+    pub name: &'n str,
+    pub plan: &'p Plan,
     /// The file's length in bytes.
     pub size: u64,
     ghost sized: { IsSized (F.state files.now).kept name.now size },
     ghost backed: { AreBacked plan.now.regions size } by { AreBacked-prop plan.now.regions size },
 }
 
-impl<F: Files> Cells for FileCells<'_, F> {
+impl<F: Files> Cells for FileCells<'_, '_, '_, F> {
     ghost state = { λ c. file_state (F.state c.files.now) c.name.now c.plan.now.regions c.files.ghost_name };
 
     fn byte(&mut self, a: u64) -> Result<Option<u8>, Failed> {
