@@ -7,3 +7,4 @@ pub mod Pairs
 pub mod Prefixes
 pub mod Laws
 pub mod Ready
+pub mod ImportLemmas

@@ -5,3 +5,5 @@ pub mod Bare
 pub mod Ends
 pub mod Windows
 pub mod Both
+pub mod ImportRule
+pub mod InputPlans

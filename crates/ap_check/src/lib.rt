@@ -16,6 +16,8 @@ mod tls; // rule 21: the template of thread-local storage
 mod named; // the symbols that the linker looks for
 mod windows; // rules 24 to 28: what Windows asks
 mod both; // rule 23: two inputs together
+mod imports; // rule 28: the import table
+mod input_plan; // an input in memory
 mod input; // what is taken of an input
 mod load; // its loads
 mod part; // the parts of the file that they have
@@ -31,7 +33,9 @@ pub use check::check_input;
 pub use end::CheckEnd;
 pub use fault::Fault;
 pub use file::check_input_in;
+pub use imports::{ImportTable, check_imports, check_imports_in};
 pub use input::Input;
+pub use input_plan::{bytes_are_cells, plan_of};
 pub use job::Job;
 pub use load::{Load, taken_loads};
 pub use options::{Options, Systems};

@@ -1,6 +1,11 @@
+pub mod Fetching
+pub mod ImportNames
+pub mod WalkLemmas
+pub mod ShownBytes
 pub mod RegionBytes
 pub mod RegionCells
 pub mod Totals
 pub mod Alike
 pub mod RunLemmas
 pub mod RunBytes
+pub mod ImportReads

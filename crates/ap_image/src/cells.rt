@@ -1,8 +1,10 @@
 // What a plan has at an address.
-ghost use Rattle.std.specs.Prelude.{◌≡◌, ◌≤◌, ◌<◌, ◌+◌, ◌-◌, ◌∷◌, ℕ, List, length, drop, nat_le};
+ghost use Rattle.std.specs.Prelude.{◌≡◌, ◌≤◌, ◌<◌, ◌+◌, ◌-◌, ◌∷◌, ◌^◌, ℕ, List, length, drop, nat_le, IfSome};
+ghost use Rattle.std.specs.Option.{option_map};
 ghost use Rattle.ap_fields.specs.Readings.{bytes_in};
 ghost use Rattle.ap_image.specs.Plans.{AreAscendingFrom, AreBacked, end_of, region_byte, cell_in, cell_of};
 ghost use Rattle.ap_image.specs.declared.plan.Region.{Region};
+ghost use Rattle.ap_image.specs.PlanCells.{shown_by, byte_by, LiesIn};
 
 use crate::plan::{Plan, Region};
 use ap_fields::Perms;
@@ -20,6 +22,43 @@ pub fn cell(plan: &Plan, file: &[u8], a: u64) -> Option<(u8, Perms)>
         return None;
     }
     Some((byte(r, file, a), r.perms))
+}
+
+/// What a plan shows at an address: the byte of the file at a place, or a zero behind what the region shows of the file.
+pub(crate) enum Shown {
+    File(u64),
+    Zero,
+}
+
+/// What a plan over a file of `size` bytes shows at the address `a`. `None` exactly where no region has `a`.
+#[tactic(auto, using(crate::proofs::RegionCells::cell_steps))]
+pub(crate) fn look_up(plan: &Plan, size: u64, a: u64) -> Option<Shown>
+    requires { AreBacked plan.now.regions size }
+    ensures place { (byte : ℕ → ℕ) → shown_by byte plan.now.regions a ≡ option_map (byte_by byte)
+        result }
+    ensures within { IfSome result (λ s. LiesIn size s) }
+{
+    let regions = plan.regions.as_slice();
+    let r = regions.get(ended(regions, a))?;
+    if a < r.start {
+        return None;
+    }
+    Some(part(r, a))
+}
+
+// What a region shows at an address that isn't below it.
+fn part(r: &Region, a: u64) -> Shown
+    requires address { r.now.start ≤ a }
+    requires small { r.now.at + r.now.backed < 2 ^ 64 }
+    ensures place { (byte : ℕ → ℕ) → region_byte byte r.now a ≡ byte_by byte result }
+    ensures within { LiesIn (r.now.at + r.now.backed) result }
+{
+    let offset = a - r.start;
+    if offset < r.backed {
+        Shown::File(r.at + offset)
+    } else {
+        Shown::Zero
+    }
 }
 
 // How many regions end at or before an address.
@@ -57,10 +96,8 @@ fn byte(r: &Region, file: &[u8], a: u64) -> u8
     requires backed { r.now.at + r.now.backed ≤ length file.now }
     ensures { result ≡ region_byte (bytes_in file.now) r.now a }
 {
-    let offset = a - r.start;
-    if offset < r.backed {
-        file[(r.at + offset) as usize]
-    } else {
-        0
+    match part(r, a) {
+        Shown::File(at) => file[at as usize],
+        Shown::Zero => 0,
     }
 }

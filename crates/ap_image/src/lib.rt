@@ -7,10 +7,20 @@ mod reading; // readings of files
 mod cells; // what a plan has at an address
 mod run; // regions that touch, as one
 mod image_file; // the image file of a plan
+mod by_address; // bytes by their addresses
+mod plan_cells; // those that a plan shows
+mod import_step; // what a walk of an import directory gives
+mod import_place; // where it stands
+mod import_read; // what it reads
+mod walk; // the walk
 
 pub use ap_fields::Perms;
+pub use by_address::Cells;
 pub use cells::cell;
 pub use image_file::{DumpFault, address_count, dump};
+pub use import_step::{Ending, Step, WalkCause, WalkEnd, WalkFault, What};
 pub use plan::{MOST_REGIONS, Plan, Region};
+pub use plan_cells::{FileCells, PlanCells};
 pub use reading::{Reading, reads_alike};
 pub use run::{Run, runs};
+pub use walk::Walk;
