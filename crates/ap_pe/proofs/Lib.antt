@@ -5,3 +5,4 @@ pub mod Framed
 pub mod Fitting
 pub mod Rounding
 pub mod Sums
+pub mod HeaderReads
