@@ -22,3 +22,7 @@ pub mod Filling
 pub mod Lending
 pub mod HeldLemmas
 pub mod TakenStatements
+pub mod PePerms
+pub mod PeSections
+pub mod PeWalk
+pub mod PeImageProof

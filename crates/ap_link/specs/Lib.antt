@@ -9,3 +9,4 @@ pub mod Answers
 pub mod FileAnswers
 pub mod Lent
 pub mod Held
+pub mod PeImages

@@ -1,5 +1,6 @@
 // What the readings find in a linked file.
 ghost use Rattle.ap_link.specs.Images.{ElfIsSame, ApeIsSame};
+ghost use Rattle.ap_link.specs.PeImages.{PeIsSame};
 
 /// A linked file with an input's header over its first bytes is read as the input's image by the ELF reading, for each page
 /// size of the input's machine.
@@ -11,4 +12,10 @@ pub fn elf_is_same()
 /// machine.
 pub fn ape_is_same()
     ensures { ApeIsSame }
+{}
+
+/// A linked file with an x86-64 input's PE headers is read as the input's image by the PE reading, and shows besides the file's
+/// first bytes from the image base on and zeros in the gaps between loads.
+pub fn pe_is_same()
+    ensures { PeIsSame }
 {}

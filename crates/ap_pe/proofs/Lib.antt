@@ -9,3 +9,4 @@ pub mod HeaderZeros
 pub mod SectionZeros
 pub mod LinkedHeaders
 pub mod Programs
+pub mod HeaderReads

@@ -6,6 +6,7 @@ mod elf;
 mod fields;
 mod memory;
 mod octal;
+mod pe;
 mod plans;
 mod readings;
 mod streams;
