@@ -1,0 +1,9 @@
+//! The shell grammar: which texts are scripts of the subset of the POSIX.1 Shell Command Language that apetool reads, and
+//! which script each of them is (POSIX.1, chapter 2).
+#![tactic(auto)]
+
+mod tree; // what a script is
+
+pub use tree::{
+    Assign, Chain, Joined, Node, Nul, Part, Redirection, Script, ShellFault, Simple, Target, Word,
+};
