@@ -5,7 +5,7 @@ use Rattle.ap_shell.specs.Steps.{Action, Gives}
 use Rattle.ap_shell.specs.Redirecting.{Opens, Redirects}
 use Rattle.ap_shell.specs.Obeying.{Assigns, simply}
 use Rattle.ap_shell.specs.Meaning.{Joins, chain_meaning, node_meaning, joined_meaning, chosen, node_means, chain_means, joined_means}
-use Rattle.ap_shell.specs.Simples.{part_meaning, target_meaning, word_meaning, assign_meaning, redirection_meaning, simple_meaning, part_means, target_means, word_means, assign_means, redirection_means, command_means}
+use Rattle.ap_shell.specs.Simples.{Says, Lists, Does, part_meaning, target_meaning, word_meaning, assign_meaning, redirection_meaning, simple_meaning, part_means, target_means, word_means, assign_means, redirection_means, command_means}
 use Rattle.ap_shell.specs.Words.{within}
 use Rattle.ap_shell.specs.declared.types.Env.{Env}
 use Rattle.ap_shparse.specs.declared.tree.Chain.{Chain, roll-Chain, out-Chain}
@@ -44,67 +44,67 @@ node_if env a b c = ap (node_meaning env) (sym (node.rolls-If a b c)) ∙ fold-r
 
 pub part_text : (env : Env) (b : Text) → part_meaning env (part.Text b) ≡ (λ s. (b, s))
 unfolding part_meaning target_meaning word_meaning assign_meaning redirection_meaning simple_meaning
-part_text env b = ap (part_meaning env) (sym (part.rolls-Text b)) ∙ fold-roll-Part (Gives Text) Opens (Gives (List Text)) Assigns Redirects (Bool → Action) (part_means env) target_means (word_means env) assign_means redirection_means (command_means env) (Part-F.Text b)
+part_text env b = ap (part_meaning env) (sym (part.rolls-Text b)) ∙ fold-roll-Part Says Opens Lists Assigns Redirects Does (part_means env) target_means (word_means env) assign_means redirection_means (command_means env) (Part-F.Text b)
 
 pub part_variable : (env : Env) (name : Text) → part_meaning env (part.Variable name) ≡ part_means env (Part-F.Variable name)
 unfolding part_meaning target_meaning word_meaning assign_meaning redirection_meaning simple_meaning
-part_variable env name = ap (part_meaning env) (sym (part.rolls-Variable name)) ∙ fold-roll-Part (Gives Text) Opens (Gives (List Text)) Assigns Redirects (Bool → Action) (part_means env) target_means (word_means env) assign_means redirection_means (command_means env) (Part-F.Variable name)
+part_variable env name = ap (part_meaning env) (sym (part.rolls-Variable name)) ∙ fold-roll-Part Says Opens Lists Assigns Redirects Does (part_means env) target_means (word_means env) assign_means redirection_means (command_means env) (Part-F.Variable name)
 
 pub part_fallback : (env : Env) (name : Text) (other : Text) → part_meaning env (part.Fallback name other) ≡ part_means env (Part-F.Fallback name other)
 unfolding part_meaning target_meaning word_meaning assign_meaning redirection_meaning simple_meaning
-part_fallback env name other = ap (part_meaning env) (sym (part.rolls-Fallback name other)) ∙ fold-roll-Part (Gives Text) Opens (Gives (List Text)) Assigns Redirects (Bool → Action) (part_means env) target_means (word_means env) assign_means redirection_means (command_means env) (Part-F.Fallback name other)
+part_fallback env name other = ap (part_meaning env) (sym (part.rolls-Fallback name other)) ∙ fold-roll-Part Says Opens Lists Assigns Redirects Does (part_means env) target_means (word_means env) assign_means redirection_means (command_means env) (Part-F.Fallback name other)
 
 pub part_zero : (env : Env) → part_meaning env part.Zero ≡ part_means env Part-F.Zero
 unfolding part_meaning target_meaning word_meaning assign_meaning redirection_meaning simple_meaning
-part_zero env = ap (part_meaning env) (sym part.rolls-Zero) ∙ fold-roll-Part (Gives Text) Opens (Gives (List Text)) Assigns Redirects (Bool → Action) (part_means env) target_means (word_means env) assign_means redirection_means (command_means env) Part-F.Zero
+part_zero env = ap (part_meaning env) (sym part.rolls-Zero) ∙ fold-roll-Part Says Opens Lists Assigns Redirects Does (part_means env) target_means (word_means env) assign_means redirection_means (command_means env) Part-F.Zero
 
 pub part_process : (env : Env) → part_meaning env part.Process ≡ part_means env Part-F.Process
 unfolding part_meaning target_meaning word_meaning assign_meaning redirection_meaning simple_meaning
-part_process env = ap (part_meaning env) (sym part.rolls-Process) ∙ fold-roll-Part (Gives Text) Opens (Gives (List Text)) Assigns Redirects (Bool → Action) (part_means env) target_means (word_means env) assign_means redirection_means (command_means env) Part-F.Process
+part_process env = ap (part_meaning env) (sym part.rolls-Process) ∙ fold-roll-Part Says Opens Lists Assigns Redirects Does (part_means env) target_means (word_means env) assign_means redirection_means (command_means env) Part-F.Process
 
 pub part_output : (env : Env) (x : Simple) → part_meaning env (part.Output x) ≡ within (simple_meaning env x)
 unfolding part_meaning target_meaning word_meaning assign_meaning redirection_meaning simple_meaning
-part_output env x = ap (part_meaning env) (sym (part.rolls-Output x)) ∙ fold-roll-Part (Gives Text) Opens (Gives (List Text)) Assigns Redirects (Bool → Action) (part_means env) target_means (word_means env) assign_means redirection_means (command_means env) (Part-F.Output x)
+part_output env x = ap (part_meaning env) (sym (part.rolls-Output x)) ∙ fold-roll-Part Says Opens Lists Assigns Redirects Does (part_means env) target_means (word_means env) assign_means redirection_means (command_means env) (Part-F.Output x)
 
 pub word_args : (env : Env) → word_meaning env word.Args ≡ word_means env Word-F.Args
 unfolding part_meaning target_meaning word_meaning assign_meaning redirection_meaning simple_meaning
-word_args env = ap (word_meaning env) (sym word.rolls-Args) ∙ fold-roll-Word (Gives Text) Opens (Gives (List Text)) Assigns Redirects (Bool → Action) (part_means env) target_means (word_means env) assign_means redirection_means (command_means env) Word-F.Args
+word_args env = ap (word_meaning env) (sym word.rolls-Args) ∙ fold-roll-Word Says Opens Lists Assigns Redirects Does (part_means env) target_means (word_means env) assign_means redirection_means (command_means env) Word-F.Args
 
 pub word_parts : (env : Env) (ps : List Part) → word_meaning env (word.Parts ps) ≡ word_means env (Word-F.Parts (map (part_meaning env) ps))
 unfolding part_meaning target_meaning word_meaning assign_meaning redirection_meaning simple_meaning
-word_parts env ps = ap (word_meaning env) (sym (word.rolls-Parts ps)) ∙ fold-roll-Word (Gives Text) Opens (Gives (List Text)) Assigns Redirects (Bool → Action) (part_means env) target_means (word_means env) assign_means redirection_means (command_means env) (Word-F.Parts ps)
+word_parts env ps = ap (word_meaning env) (sym (word.rolls-Parts ps)) ∙ fold-roll-Word Says Opens Lists Assigns Redirects Does (part_means env) target_means (word_means env) assign_means redirection_means (command_means env) (Word-F.Parts ps)
 
 pub target_write : (env : Env) (w : Word) → target_meaning env (target.Write w) ≡ target_means (Target-F.Write (word_meaning env w))
 unfolding part_meaning target_meaning word_meaning assign_meaning redirection_meaning simple_meaning
-target_write env w = ap (target_meaning env) (sym (target.rolls-Write w)) ∙ fold-roll-Target (Gives Text) Opens (Gives (List Text)) Assigns Redirects (Bool → Action) (part_means env) target_means (word_means env) assign_means redirection_means (command_means env) (Target-F.Write w)
+target_write env w = ap (target_meaning env) (sym (target.rolls-Write w)) ∙ fold-roll-Target Says Opens Lists Assigns Redirects Does (part_means env) target_means (word_means env) assign_means redirection_means (command_means env) (Target-F.Write w)
 
 pub target_read : (env : Env) (w : Word) → target_meaning env (target.Read w) ≡ target_means (Target-F.Read (word_meaning env w))
 unfolding part_meaning target_meaning word_meaning assign_meaning redirection_meaning simple_meaning
-target_read env w = ap (target_meaning env) (sym (target.rolls-Read w)) ∙ fold-roll-Target (Gives Text) Opens (Gives (List Text)) Assigns Redirects (Bool → Action) (part_means env) target_means (word_means env) assign_means redirection_means (command_means env) (Target-F.Read w)
+target_read env w = ap (target_meaning env) (sym (target.rolls-Read w)) ∙ fold-roll-Target Says Opens Lists Assigns Redirects Does (part_means env) target_means (word_means env) assign_means redirection_means (command_means env) (Target-F.Read w)
 
 pub target_both : (env : Env) (w : Word) → target_meaning env (target.Both w) ≡ target_means (Target-F.Both (word_meaning env w))
 unfolding part_meaning target_meaning word_meaning assign_meaning redirection_meaning simple_meaning
-target_both env w = ap (target_meaning env) (sym (target.rolls-Both w)) ∙ fold-roll-Target (Gives Text) Opens (Gives (List Text)) Assigns Redirects (Bool → Action) (part_means env) target_means (word_means env) assign_means redirection_means (command_means env) (Target-F.Both w)
+target_both env w = ap (target_meaning env) (sym (target.rolls-Both w)) ∙ fold-roll-Target Says Opens Lists Assigns Redirects Does (part_means env) target_means (word_means env) assign_means redirection_means (command_means env) (Target-F.Both w)
 
 pub target_same : (env : Env) (n : ℕ) → target_meaning env (target.Same n) ≡ target_means (Target-F.Same n)
 unfolding part_meaning target_meaning word_meaning assign_meaning redirection_meaning simple_meaning
-target_same env n = ap (target_meaning env) (sym (target.rolls-Same n)) ∙ fold-roll-Target (Gives Text) Opens (Gives (List Text)) Assigns Redirects (Bool → Action) (part_means env) target_means (word_means env) assign_means redirection_means (command_means env) (Target-F.Same n)
+target_same env n = ap (target_meaning env) (sym (target.rolls-Same n)) ∙ fold-roll-Target Says Opens Lists Assigns Redirects Does (part_means env) target_means (word_means env) assign_means redirection_means (command_means env) (Target-F.Same n)
 
 pub target_here : (env : Env) (t : Text) → target_meaning env (target.Here t) ≡ target_means (Target-F.Here t)
 unfolding part_meaning target_meaning word_meaning assign_meaning redirection_meaning simple_meaning
-target_here env t = ap (target_meaning env) (sym (target.rolls-Here t)) ∙ fold-roll-Target (Gives Text) Opens (Gives (List Text)) Assigns Redirects (Bool → Action) (part_means env) target_means (word_means env) assign_means redirection_means (command_means env) (Target-F.Here t)
+target_here env t = ap (target_meaning env) (sym (target.rolls-Here t)) ∙ fold-roll-Target Says Opens Lists Assigns Redirects Does (part_means env) target_means (word_means env) assign_means redirection_means (command_means env) (Target-F.Here t)
 
 pub assign_is : (env : Env) (name : Text) (value : Word) → assign_meaning env (roll-Assign (record { name = name; value = value })) ≡ record { name = name; value = word_meaning env value }
 unfolding part_meaning target_meaning word_meaning assign_meaning redirection_meaning simple_meaning
-assign_is env name value = fold-roll-Assign (Gives Text) Opens (Gives (List Text)) Assigns Redirects (Bool → Action) (part_means env) target_means (word_means env) assign_means redirection_means (command_means env) (record { name = name; value = value })
+assign_is env name value = fold-roll-Assign Says Opens Lists Assigns Redirects Does (part_means env) target_means (word_means env) assign_means redirection_means (command_means env) (record { name = name; value = value })
 
 pub redirection_is : (env : Env) (n : ℕ) (to : Target) → redirection_meaning env (roll-Redirection (record { number = n; to = to })) ≡ target_meaning env to n
 unfolding part_meaning target_meaning word_meaning assign_meaning redirection_meaning simple_meaning
-redirection_is env n to = fold-roll-Redirection (Gives Text) Opens (Gives (List Text)) Assigns Redirects (Bool → Action) (part_means env) target_means (word_means env) assign_means redirection_means (command_means env) (record { number = n; to = to })
+redirection_is env n to = fold-roll-Redirection Says Opens Lists Assigns Redirects Does (part_means env) target_means (word_means env) assign_means redirection_means (command_means env) (record { number = n; to = to })
 
 pub simple_is : (env : Env) (sets : List Assign) (ws : List Word) (rs : List Redirection) → simple_meaning env (roll-Simple (record { assigns = sets; words = ws; redirections = rs })) ≡ simply env (map (word_meaning env) ws) (map (redirection_meaning env) rs) (map (assign_meaning env) sets)
 unfolding part_meaning target_meaning word_meaning assign_meaning redirection_meaning simple_meaning
-simple_is env sets ws rs = fold-roll-Simple (Gives Text) Opens (Gives (List Text)) Assigns Redirects (Bool → Action) (part_means env) target_means (word_means env) assign_means redirection_means (command_means env) (record { assigns = sets; words = ws; redirections = rs })
+simple_is env sets ws rs = fold-roll-Simple Says Opens Lists Assigns Redirects Does (part_means env) target_means (word_means env) assign_means redirection_means (command_means env) (record { assigns = sets; words = ws; redirections = rs })
 
 pub simple_at : (env : Env) (sets : List Assign) (ws : List Word) (rs : List Redirection) (inside : Bool) → simple_meaning env (roll-Simple (record { assigns = sets; words = ws; redirections = rs })) inside ≡ simply env (map (word_meaning env) ws) (map (redirection_meaning env) rs) (map (assign_meaning env) sets) inside
 simple_at env sets ws rs inside = ap (λ f. f inside) (simple_is env sets ws rs)
@@ -128,15 +128,15 @@ here_at env t n = ap (λ f. f n) (target_here env t)
 
 pub assign_out : (env : Env) (x : Assign) → assign_meaning env x ≡ record { name = (out-Assign x).name; value = word_meaning env (out-Assign x).value }
 unfolding assign_meaning word_meaning
-assign_out env x = fold_out-Assign (Gives Text) Opens (Gives (List Text)) Assigns Redirects (Bool → Action) (part_means env) target_means (word_means env) assign_means redirection_means (command_means env) x
+assign_out env x = fold_out-Assign Says Opens Lists Assigns Redirects Does (part_means env) target_means (word_means env) assign_means redirection_means (command_means env) x
 
 pub redirection_out : (env : Env) (x : Redirection) → redirection_meaning env x ≡ target_meaning env (out-Redirection x).to (out-Redirection x).number
 unfolding redirection_meaning target_meaning
-redirection_out env x = fold_out-Redirection (Gives Text) Opens (Gives (List Text)) Assigns Redirects (Bool → Action) (part_means env) target_means (word_means env) assign_means redirection_means (command_means env) x
+redirection_out env x = fold_out-Redirection Says Opens Lists Assigns Redirects Does (part_means env) target_means (word_means env) assign_means redirection_means (command_means env) x
 
 pub simple_out : (env : Env) (x : Simple) → simple_meaning env x ≡ simply env (map (word_meaning env) (out-Simple x).words) (map (redirection_meaning env) (out-Simple x).redirections) (map (assign_meaning env) (out-Simple x).assigns)
 unfolding simple_meaning word_meaning redirection_meaning assign_meaning
-simple_out env x = fold_out-Simple (Gives Text) Opens (Gives (List Text)) Assigns Redirects (Bool → Action) (part_means env) target_means (word_means env) assign_means redirection_means (command_means env) x
+simple_out env x = fold_out-Simple Says Opens Lists Assigns Redirects Does (part_means env) target_means (word_means env) assign_means redirection_means (command_means env) x
 
 pub chain_out : (env : Env) (x : Chain) → chain_meaning env x ≡ chain_means (record { first = node_meaning env (out-Chain x).first; rest = map (joined_meaning env) (out-Chain x).rest })
 unfolding chain_meaning node_meaning joined_meaning

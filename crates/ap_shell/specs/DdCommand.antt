@@ -16,7 +16,8 @@ is_front name word = bytes_eq (take (length name) word) name
 -- what stands behind a name, in the words that begin with it
 abbrev pub values : Text → List Text → List Text
 values name [] = []
-values name (word ∷ words) = if is_front name word then drop (length name) word ∷ values name words else values name words
+values name (word ∷ words) =
+    if is_front name word then drop (length name) word ∷ values name words else values name words
 
 abbrev pub only : List Text → Option Text
 only (value ∷ []) = Some value
@@ -30,11 +31,13 @@ abbrev pub only_number : Text → List Text → Option ℕ
 only_number name words = option_and_then short_number (only_value name words)
 
 abbrev pub blocks_with : Option ℕ → Option ℕ → Option ℕ → Option Blocks
-blocks_with (Some size) (Some skip) (Some count) = if nat_le 1 size then Some (record { size = size; skip = skip; count = count }) else None
+blocks_with (Some size) (Some skip) (Some count) =
+    if nat_le 1 size then Some (record { size = size; skip = skip; count = count }) else None
 blocks_with _ _ _ = None
 
 abbrev pub blocks_of : List Text → Option Blocks
-blocks_of words = blocks_with (only_number (codes "bs=") words) (only_number (codes "skip=") words) (only_number (codes "count=") words)
+blocks_of words =
+    blocks_with (only_number (codes "bs=") words) (only_number (codes "skip=") words) (only_number (codes "count=") words)
 
 abbrev pub is_notrunc : Option Text → Bool
 is_notrunc None = false

@@ -21,7 +21,8 @@ refused a b = begins_with 45 a || (begins_with 45 b || bytes_eq a b)
 -- a new copy has the mode of what it is a copy of
 abbrev pub copied : Option HostFile → Text → Leaves
 copied None b files = (plain 1, files)
-copied (Some f) b files = (plain 0, with_file b (record { bytes = f.bytes; mode = mode_or (file_at b files) f.mode }) files)
+copied (Some f) b files =
+    (plain 0, with_file b (record { bytes = f.bytes; mode = mode_or (file_at b files) f.mode }) files)
 
 unfoldable pub cp : List Text → Leaves
 cp (a ∷ b ∷ []) files = if refused a b then (plain 1, files) else copied (file_at a files) b files
@@ -30,7 +31,8 @@ cp _ files = (plain 1, files)
 -- ---- `chmod DDD F`
 
 abbrev pub mode_of : Text → Option ℕ
-mode_of (a ∷ b ∷ c ∷ []) = if is_octal_digit a && (is_octal_digit b && is_octal_digit c) then Some (octal3 a b c) else None
+mode_of (a ∷ b ∷ c ∷ []) =
+    if is_octal_digit a && (is_octal_digit b && is_octal_digit c) then Some (octal3 a b c) else None
 mode_of _ = None
 
 abbrev pub set_mode : Option ℕ → Option HostFile → Text → Leaves

@@ -13,7 +13,9 @@ abbrev pub Text : Type 0
 Text = List ℕ
 
 abbrev pub file_code : Coded HostFile
-file_code = code_by (List ℕ × ℕ) (coded× (coded_list coded_ℕ) coded_ℕ) (λ f. (f.bytes, f.mode)) (λ p. record { bytes = p.0; mode = p.1 }) (λ _. refl)
+file_code =
+    code_by (List ℕ × ℕ) (coded× (coded_list coded_ℕ) coded_ℕ)
+    (λ f. (f.bytes, f.mode)) (λ p. record { bytes = p.0; mode = p.1 }) (λ _. refl)
 
 abbrev pub FileMap : Type 0
 FileMap = fin.FinMap (slice_cmp nat_cmp) HostFile

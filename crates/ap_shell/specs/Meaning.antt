@@ -45,7 +45,8 @@ branch [] s = status_now 0 s
 branch (a ∷ more) s = in_turn (a ∷ more) s
 
 abbrev pub chosen : List Action → List Action → List Action → Action
-chosen test first second s = unless_ended (in_turn test s) (λ s1. if s1.status == 0 then branch first s1 else branch second s1)
+chosen test first second s =
+    unless_ended (in_turn test s) (λ s1. if s1.status == 0 then branch first s1 else branch second s1)
 
 -- ---- folds over the command tree
 

@@ -9,10 +9,12 @@ abbrev pub Names : Type 0
 Names = List (Text × Command)
 
 abbrev pub utilities : Names
-utilities = (codes "uname", c.Uname) ∷ (codes "cp", c.Cp) ∷ (codes "chmod", c.Chmod) ∷ (codes "dd", c.Dd) ∷ (codes "printf", c.Printf) ∷ []
+utilities =
+    (codes "uname", c.Uname) ∷ (codes "cp", c.Cp) ∷ (codes "chmod", c.Chmod) ∷ (codes "dd", c.Dd) ∷ (codes "printf", c.Printf) ∷ []
 
 abbrev pub others : Names
-others = (codes "[", c.Test) ∷ (codes "command", c.Find) ∷ (codes ":", c.Colon) ∷ (codes "true", c.True) ∷ (codes "false", c.False) ∷ []
+others =
+    (codes "[", c.Test) ∷ (codes "command", c.Find) ∷ (codes ":", c.Colon) ∷ (codes "true", c.True) ∷ (codes "false", c.False) ∷ []
 
 abbrev pub ends : Names
 ends = (codes "exit", c.Exit) ∷ (codes "exec", c.Exec) ∷ []
@@ -27,7 +29,8 @@ first_of (Some k) other = Some k
 
 -- within `$(..)`, `exit` and `exec` are no commands
 abbrev pub command_of : Bool → Text → Option Command
-command_of inside name = first_of (named name utilities) (first_of (named name others) (if inside then None else named name ends))
+command_of inside name =
+    first_of (named name utilities) (first_of (named name others) (if inside then None else named name ends))
 
 abbrev pub is_utility : Command → Bool
 is_utility c.Uname = true

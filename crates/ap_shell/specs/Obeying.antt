@@ -39,16 +39,26 @@ assigned (a ∷ more) s = assigned more (name_to a.name (a.value s))
 
 -- from the file's start, without cutting the rest
 abbrev pub overwritten : Text → Option HostFile → Text → FileMap → FileMap
-overwritten name file text files = with_file name (record { bytes = over (bytes_or_none file) text; mode = mode_or file 384 }) files
+overwritten name file text files =
+    with_file name (record { bytes = over (bytes_or_none file) text; mode = mode_or file 384 }) files
 
 abbrev pub delivered : Sink → Text → Host → Host
 delivered sink [] host = host
 delivered Enclosing (b ∷ t) host = record { files = host.files; out = host.out ++ b ∷ t }
-delivered (Into name) (b ∷ t) host = record { files = overwritten name (file_at name host.files) (b ∷ t) host.files; out = host.out }
+delivered (Into name) (b ∷ t) host = record {
+  files = overwritten name (file_at name host.files) (b ∷ t) host.files;
+  out = host.out;
+}
 delivered Nowhere (b ∷ t) host = host
 
 abbrev pub left_by : Routes → Done × FileMap → Action
-left_by routes r s = (r.0.outcome, record s { host = delivered routes.one r.0.printed (record { files = r.1; out = s.host.out }); status = r.0.status })
+left_by routes r s = (
+  r.0.outcome,
+  record s {
+    host = delivered routes.one r.0.printed (record { files = r.1; out = s.host.out });
+    status = r.0.status;
+  },
+)
 
 -- ---- the command
 
@@ -60,7 +70,8 @@ abbrev pub is_failing : Env → ℕ → Bool
 is_failing env n = list_any (λ k. k == n) env.fails
 
 abbrev pub called_if : Bool → Env → Bool → Command → List Text → Routes → Action
-called_if fails env inside k ws routes s = if fails then status_now 1 s else left_by routes (effect env inside k ws s.status s.host.files) s
+called_if fails env inside k ws routes s =
+    if fails then status_now 1 s else left_by routes (effect env inside k ws s.status s.host.files) s
 
 abbrev pub called : Env → Bool → Option Command → List Text → Routes → Action
 called env inside None ws routes s = status_now 127 s
@@ -81,7 +92,8 @@ obeyed env inside before (name ∷ ws) routes s =
 -- after a redirection that failed
 abbrev pub failed : Bool → List Text → Action
 failed inside [] s = status_now 1 s
-failed inside (name ∷ ws) s = if not inside && is_special (command_of inside name) then (Some (Exits 1), s) else status_now 1 s
+failed inside (name ∷ ws) s =
+    if not inside && is_special (command_of inside name) then (Some (Exits 1), s) else status_now 1 s
 
 -- after the redirections
 abbrev pub performed : Env → Bool → List Assigns → List Text → Option Routes → Action
@@ -90,4 +102,6 @@ performed env inside assigns ws (Some routes) s = obeyed env inside s.vars ws ro
 
 abbrev pub simply : Env → List (Gives (List Text)) → List Redirects → List Assigns → Bool → Action
 simply env words redirs assigns inside s =
-    listed words (record s { inner = 0 }) then_do (λ ws s1. redirected redirs plainly s1 then_do (λ o s2. performed env inside assigns ws o s2))
+    listed words (record s { inner = 0 }) then_do (λ ws s1.
+    redirected redirs plainly s1 then_do (λ o s2.
+    performed env inside assigns ws o s2))

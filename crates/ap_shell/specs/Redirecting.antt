@@ -22,7 +22,8 @@ abbrev pub sink_of : Text → Sink
 sink_of name = if is_null name then Nowhere else Into name
 
 abbrev pub routed : ℕ → Sink → Routes → Routes
-routed n sink routes = if n == 1 then record { one = sink; two = routes.two } else (if n == 2 then record { one = routes.one; two = sink } else routes)
+routed n sink routes = if n == 1 then record { one = sink; two = routes.two }
+    else (if n == 2 then record { one = routes.one; two = sink } else routes)
 
 abbrev pub source_of : ℕ → Routes → Sink
 source_of n routes = if n == 1 then routes.one else routes.two
@@ -48,7 +49,10 @@ ensured (Some f) name files = files
 ensured None name files = with_file name (record { bytes = []; mode = 384 }) files
 
 abbrev pub opens_ensured : ℕ → List Text → Routes → Gives (Option Routes)
-opens_ensured n w routes s = (opened n (as_one w) routes, with_files (ensured (file_at (as_one w) s.host.files) (as_one w)) s)
+opens_ensured n w routes s = (
+  opened n (as_one w) routes,
+  with_files (ensured (file_at (as_one w) s.host.files) (as_one w)) s,
+)
 
 -- ---- `<` fails where it is missing
 

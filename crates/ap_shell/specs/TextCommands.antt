@@ -14,7 +14,8 @@ line text = printing (text ++ 10 ∷ [])
 -- ---- `uname -m` and `uname -s`
 
 unfoldable pub uname : Env → List Text → Done
-uname env (word ∷ []) = if bytes_eq word (codes "-m") then line env.machine else (if bytes_eq word (codes "-s") then line env.system else plain 1)
+uname env (word ∷ []) = if bytes_eq word (codes "-m") then line env.machine
+    else (if bytes_eq word (codes "-s") then line env.system else plain 1)
 uname env _ = plain 1
 
 -- ---- `printf T`: T is octal text
@@ -30,16 +31,19 @@ printf _ = plain 1
 -- ---- `command -v N`
 
 unfoldable pub command_v : Bool → Bool → List Text → Done
-command_v inside ape (option ∷ name ∷ []) = if bytes_eq option (codes "-v") && is_command inside ape name then line name else plain 1
+command_v inside ape (option ∷ name ∷ []) =
+    if bytes_eq option (codes "-v") && is_command inside ape name then line name else plain 1
 command_v inside ape _ = plain 1
 
 -- ---- `[ a = b ]`, `[ a != b ]`, `[ -n a ]` and `[ -z a ]`, by the places of their words
 
 abbrev pub compared : Text → Text → Text → ℕ
-compared a op b = if bytes_eq op (codes "=") then holding (bytes_eq a b) else (if bytes_eq op (codes "!=") then holding (not (bytes_eq a b)) else 2)
+compared a op b = if bytes_eq op (codes "=") then holding (bytes_eq a b)
+    else (if bytes_eq op (codes "!=") then holding (not (bytes_eq a b)) else 2)
 
 abbrev pub measured : Text → Text → ℕ
-measured op a = if bytes_eq op (codes "-n") then holding (not (bytes_eq a [])) else (if bytes_eq op (codes "-z") then holding (bytes_eq a []) else 2)
+measured op a = if bytes_eq op (codes "-n") then holding (not (bytes_eq a []))
+    else (if bytes_eq op (codes "-z") then holding (bytes_eq a []) else 2)
 
 abbrev pub closed : Text → ℕ → ℕ
 closed word status = if bytes_eq word (codes "]") then status else 2

@@ -49,7 +49,10 @@ trimmed (b ∷ t) = if all_newlines (b ∷ t) then [] else b ∷ trimmed t
 
 -- what was printed. The files, the count of calls and the status of the `$(..)` are kept, and nothing else
 abbrev pub captured : State → Option Outcome × State → Text × State
-captured s r = (trimmed r.1.host.out, record s { host = record { files = r.1.host.files; out = s.host.out }; calls = r.1.calls; inner = r.1.status })
+captured s r = (
+  trimmed r.1.host.out,
+  record s { host = record { files = r.1.host.files; out = s.host.out }; calls = r.1.calls; inner = r.1.status },
+)
 
 -- the command prints into nothing at first, and is told that it stands within `$(..)`
 abbrev pub within : (Bool → Action) → Gives Text

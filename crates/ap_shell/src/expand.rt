@@ -46,7 +46,8 @@ fn within(
     command: &Simple,
     state: &mut State,
 ) -> Result<Items<u8>, AllocError>
-    ensures { IfOk result (λ t. texts.within (simples.simple_meaning env.now command.now) state.old ≡ (t, state.new)) }
+    ensures { IfOk result (λ t. texts.within (simples.simple_meaning env.now command.now) state.old
+        ≡ (t, state.new)) }
 {
     let vars = copy_vars(alloc, state.vars.as_slice())?;
     let status = state.status;
@@ -67,7 +68,8 @@ fn joined(
     parts: &[Part],
     state: &mut State,
 ) -> Result<Items<u8>, AllocError>
-    ensures { IfOk result (λ t. texts.joined (map (simples.part_meaning env.now) parts.now) state.old ≡ (t, state.new)) }
+    ensures { IfOk result (λ t. texts.joined (map (simples.part_meaning env.now) parts.now) state.old
+        ≡ (t, state.new)) }
 {
     let mut text = Items::new(alloc);
     for one in parts {
@@ -105,7 +107,8 @@ fn listed(
     words: &[Word],
     state: &mut State,
 ) -> Result<Items<Items<u8>>, AllocError>
-    ensures { IfOk result (λ t. texts.listed (map (simples.word_meaning env.now) words.now) state.old ≡ (t, state.new)) }
+    ensures { IfOk result (λ t. texts.listed (map (simples.word_meaning env.now) words.now) state.old
+        ≡ (t, state.new)) }
 {
     let mut out = Items::new(alloc);
     for one in words {
@@ -124,7 +127,8 @@ fn target(
     routes: Routes,
     state: &mut State,
 ) -> Result<Option<Routes>, AllocError>
-    ensures { IfOk result (λ o. simples.target_meaning env.now to.now number routes state.old ≡ (o, state.new)) }
+    ensures { IfOk result (λ o. simples.target_meaning env.now to.now number routes state.old
+        ≡ (o, state.new)) }
 {
     match to {
         Target::Write { word: w } => {
@@ -153,7 +157,8 @@ fn redirected(
     first: Routes,
     state: &mut State,
 ) -> Result<Option<Routes>, AllocError>
-    ensures { IfOk result (λ o. routing.redirected (map (simples.redirection_meaning env.now) all.now) first state.old ≡ (o, state.new)) }
+    ensures { IfOk result (λ o. routing.redirected (map (simples.redirection_meaning env.now) all.now) first state.old
+        ≡ (o, state.new)) }
 {
     let mut routes = first;
     for one in all {
@@ -168,7 +173,8 @@ fn redirected(
 /// The assignments of a command.
 #[cycle(expand)]
 fn assigned(alloc: Global, env: &Env, all: &[Assign], state: &mut State) -> Result<(), AllocError>
-    ensures { OnOk result (obeying.assigned (map (simples.assign_meaning env.now) all.now) state.old ≡ state.new) }
+    ensures { OnOk result (obeying.assigned (map (simples.assign_meaning env.now) all.now) state.old
+        ≡ state.new) }
 {
     for one in all {
         let words = word(alloc, env, &one.value, state)?;
@@ -186,7 +192,8 @@ pub fn simple(
     inside: bool,
     state: &mut State,
 ) -> Result<Option<Outcome>, AllocError>
-    ensures { IfOk result (λ o. simples.simple_meaning env.now command.now inside state.old ≡ (o, state.new)) }
+    ensures { IfOk result (λ o. simples.simple_meaning env.now command.now inside state.old
+        ≡ (o, state.new)) }
 {
     state.inner = 0;
     let words = listed(alloc, env, command.words.as_slice(), state)?;

@@ -103,7 +103,8 @@ fn branch(
     all: &[Chain],
     state: &mut State,
 ) -> Result<Option<Outcome>, AllocError>
-    ensures { IfOk result (λ o. means.branch (map (means.chain_meaning env.now) all.now) state.old ≡ (o, state.new)) }
+    ensures { IfOk result (λ o. means.branch (map (means.chain_meaning env.now) all.now) state.old
+        ≡ (o, state.new)) }
 {
     if all.is_empty() {
         state.status = 0;
@@ -135,7 +136,8 @@ fn joined(
     all: &[Joined],
     state: &mut State,
 ) -> Result<Option<Outcome>, AllocError>
-    ensures { IfOk result (λ o. means.joined_on (map (means.joined_meaning env.now) all.now) state.old ≡ (o, state.new)) }
+    ensures { IfOk result (λ o. means.joined_on (map (means.joined_meaning env.now) all.now) state.old
+        ≡ (o, state.new)) }
 {
     for one in all {
         if let Some(ended) = one_joined(alloc, env, one, state)? {
@@ -158,7 +160,8 @@ fn one_joined(
     one: &Joined,
     state: &mut State,
 ) -> Result<Option<Outcome>, AllocError>
-    ensures { IfOk result (λ o. means.one_joined (means.joined_meaning env.now one.now) state.old ≡ (o, state.new)) }
+    ensures { IfOk result (λ o. means.one_joined (means.joined_meaning env.now one.now) state.old
+        ≡ (o, state.new)) }
 {
     if runs(one.or, state.status) {
         return node(alloc, env, &one.node, state);
@@ -174,7 +177,8 @@ fn in_turn(
     all: &[Chain],
     state: &mut State,
 ) -> Result<Option<Outcome>, AllocError>
-    ensures { IfOk result (λ o. means.in_turn (map (means.chain_meaning env.now) all.now) state.old ≡ (o, state.new)) }
+    ensures { IfOk result (λ o. means.in_turn (map (means.chain_meaning env.now) all.now) state.old
+        ≡ (o, state.new)) }
 {
     for one in all {
         if let Some(ended) = chain(alloc, env, one, state)? {
