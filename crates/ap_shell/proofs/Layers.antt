@@ -1,7 +1,7 @@
 -- The meaning of a construct, by the meanings of its parts.
 use Rattle.std.proofs.Common.{◌≡◌, ◌∙◌, ap, sym, ℕ, List, Bool, false, map}
 use Rattle.ap_shell.specs.Files.{Text}
-use Rattle.ap_shell.specs.Steps.{Action, Gives}
+use Rattle.ap_shell.specs.Steps.{Action}
 use Rattle.ap_shell.specs.Redirecting.{Opens, Redirects}
 use Rattle.ap_shell.specs.Obeying.{Assigns, simply}
 use Rattle.ap_shell.specs.Meaning.{Joins, chain_meaning, node_meaning, joined_meaning, chosen, node_means, chain_means, joined_means}

@@ -7,8 +7,8 @@ ghost use Rattle.ap_shell.specs.Obeying as obeying;
 
 use crate::copies::{copy, copy_vars, copy_words, decimal, trimmed, unless_empty, value_of};
 use crate::obey::{assign, fail, obey};
-use crate::redirect::{open_emptied, open_ensured, open_there, same};
-use crate::state::{Routes, Sink, State};
+use crate::redirect::{open_emptied, open_ensured, open_there, plainly, same};
+use crate::state::{Routes, State};
 use crate::types::{Env, Outcome};
 use ap_shparse::{Assign, Part, Redirection, Simple, Target, Word};
 use sqlite_items::Items;
@@ -196,12 +196,10 @@ pub fn simple(
         ≡ (o, state.new)) }
 {
     state.inner = 0;
+    let redirections = command.redirections.as_slice();
     let words = listed(alloc, env, command.words.as_slice(), state)?;
-    let plainly = Routes {
-        one: Sink::Enclosing,
-        two: Sink::Nowhere,
-    };
-    match redirected(alloc, env, command.redirections.as_slice(), plainly, state)? {
+    let opened = redirected(alloc, env, redirections, plainly(), state)?;
+    match opened {
         None => Ok(fail(inside, words.as_slice(), state)),
         Some(routes) => {
             let before = copy_vars(alloc, state.vars.as_slice())?;

@@ -70,6 +70,16 @@ pub fn same(
     Ok(Some(routed(number, sink, routes)))
 }
 
+/// Where the outputs go without a redirection.
+pub fn plainly() -> Routes
+    ensures { result ≡ spec.plainly }
+{
+    Routes {
+        one: Sink::Enclosing,
+        two: Sink::Nowhere,
+    }
+}
+
 fn make_empty(alloc: Global, name: &[u8], state: &mut State) -> Result<(), AllocError>
     ensures { OnOk result (state.new ≡ spec.with_files (spec.emptied name.now) state.old) }
 {

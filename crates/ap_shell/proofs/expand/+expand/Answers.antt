@@ -55,13 +55,13 @@ target-returns-in_ok-words-in-Both t c = layer _ _ _ _ _ (ap (λ k. k c.args.num
 pub simple-returns-in-None : goal.simple-returns-in-None
 simple-returns-in-None t c = ap (λ k. k c.args.inside c.args.state.now) (simple_out c.args.env.now c.args.command.now)
     ∙ simply_is c.args.env.now (map (simples.word_meaning c.args.env.now) (out-Simple c.args.command.now).words) (map (simples.redirection_meaning c.args.env.now) (out-Simple c.args.command.now).redirections) (map (simples.assign_meaning c.args.env.now) (out-Simple c.args.command.now).assigns) c.args.inside c.args.state.now c.listed.new.state c.redirected.new.state c.in_ok-words.words None
-    (rw c.as_slice.ensures at c.in_ok-words.ensures) ((rw c.as_slice-2.ensures at c.in_ok-redirected.ensures) ∙ ap (λ o. (o, c.redirected.new.state)) c.in-None.is)
+    (rw c.as_slice.ensures at c.in_ok-words.ensures) ((rw c.as_slice-redirections.ensures at (rw c.plainly.ensures at c.in_ok-opened.ensures)) ∙ ap (λ o. (o, c.redirected.new.state)) c.in-None.is)
     ∙ (rw c.as_slice-in-None.ensures at c.fail.ensures)
 
 pub simple-returns : goal.simple-returns
 simple-returns t c = layer _ _ _ _ _ (ap (λ k. k c.args.inside) (simple_out c.args.env.now c.args.command.now))
     (simply_by c.args.env.now (map (simples.word_meaning c.args.env.now) (out-Simple c.args.command.now).words) (map (simples.redirection_meaning c.args.env.now) (out-Simple c.args.command.now).redirections) (map (simples.assign_meaning c.args.env.now) (out-Simple c.args.command.now).assigns) c.args.inside c.args.state.now c.listed.new.state c.redirected.new.state _ c.in_ok-words.words (Some c.in-Some.routes) _
-    (rw c.as_slice.ensures at c.in_ok-words.ensures) ((rw c.as_slice-2.ensures at c.in_ok-redirected.ensures) ∙ ap (λ o. (o, c.redirected.new.state)) c.in-Some.is)
+    (rw c.as_slice.ensures at c.in_ok-words.ensures) ((rw c.as_slice-redirections.ensures at (rw c.plainly.ensures at c.in_ok-opened.ensures)) ∙ ap (λ o. (o, c.redirected.new.state)) c.in-Some.is)
     (performed_by c.args.env.now c.args.inside (map (simples.assign_meaning c.args.env.now) (out-Simple c.args.command.now).assigns) c.in_ok-words.words c.in-Some.routes c.redirected.new.state c.assigned.new.state _ c.in_ok-before-in-Some.before _
     (rw c.as_slice-in-Some.ensures at c.in_ok-before-in-Some.ensures) (rw c.as_slice-in-Some-2.ensures at c.in_ok-assigned-in-Some.ensures) (rw c.as_slice-in-Some-3.ensures at c.obey.ensures)))
 
