@@ -3,6 +3,11 @@
 #![tactic(auto)]
 
 mod tree; // what a script is
+mod refusal; // why a part can't be read
+mod class; // bytes by their classes
+mod text; // what is left of a text
+mod found; // what was found of a word
+mod pieces; // the pieces of a word
 
 pub use tree::{
     Assign, Chain, Joined, Node, Nul, Part, Redirection, Script, ShellFault, Simple, Target, Word,
