@@ -1,3 +1,4 @@
 pub mod Bytes
 pub mod Reads
 pub mod Pieces
+pub mod Places

@@ -11,7 +11,7 @@ use Rattle.ap_shparse.specs.declared.tree.Simple.{Simple}
 -- ---- what was found of a word so far
 
 abbrev pub none_found : Found
-none_found = record { parts = []; text = []; inside = false; dollar = false; tilde = false; quoted = false }
+none_found = record { parts = []; text = []; inside = false; dollar = false; tilde = false }
 
 -- the text that waits is a part of its own, where there is one
 abbrev pub with_text : List Part → Text → List Part
@@ -77,7 +77,7 @@ dollar sub inside t =
 
 -- behind `'`
 unfoldable pub single : Found → Text → Outcome Text Found
-single f t = and_then (expect 39 (after Quoted t)) (λ _ u. Some (with_bytes (record f { quoted = true }) (run Quoted t), u))
+single f t = and_then (expect 39 (after Quoted t)) (λ _ u. Some (with_bytes f (run Quoted t), u))
 
 unfoldable pub plain : Found → Text → Outcome Text Found
 plain f [] = None
@@ -86,7 +86,7 @@ plain f (c ∷ t) = if is_plain c then Some (with_bytes (record f { tilde = f.ti
 unfoldable pub outside : (Text → Outcome Text Simple) → Found → Text → Outcome Text Found
 outside sub f t =
     if_eaten (past_byte 39 t) (single f)
-    (if_eaten (past_byte 34 t) (pure (record f { inside = true; quoted = true }))
+    (if_eaten (past_byte 34 t) (pure (record f { inside = true }))
     (if_eaten (past_byte 36 t) (λ u. and_then (dollar sub false u) (λ p. pure (with_part (record f { dollar = true }) p)))
     (plain f t)))
 

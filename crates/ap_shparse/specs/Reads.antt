@@ -1,5 +1,6 @@
 -- What a function that reads promises.
-use Rattle.std.specs.Prelude.{◌≡◌, Option, Some, None, Result, Ok, Err, Bool, true, false}
+use Rattle.std.specs.Prelude.{◌≡◌, Option, Some, None, Result, Ok, Err, Bool, true, false, ℕ, List}
+use Rattle.std.specs.Borrow.{Bor}
 use Rattle.ap_shparse.specs.declared.refusal.Refusal.{Refusal}
 use Rattle.ap_shparse.specs.declared.refusal.Refusal.TheVariants.{Outside, NoMemory}
 
@@ -7,7 +8,7 @@ use Rattle.ap_shparse.specs.declared.refusal.Refusal.TheVariants.{Outside, NoMem
 abbrev pub Outcome : Type 0 → Type 0 → Type 0
 Outcome S A = Option (A × S)
 
-abbrev pub and_then : {S A B : Type 0} → Outcome S A → (A → S → Outcome S B) → Outcome S B
+abbrev pub and_then : {S T A B : Type 0} → Outcome S A → (A → S → Outcome T B) → Outcome T B
 and_then None f = None
 and_then (Some p) f = f p.0 p.1
 
@@ -37,6 +38,12 @@ Reads outcome (Err NoMemory) new = Unit {0}
 abbrev pub Eats : {S : Type 0} → Option S → Bool → S → S → Type 0
 Eats eaten true old new = eaten ≡ Some new
 Eats eaten false old new = (eaten ≡ None) × (new ≡ old)
+
+-- the same, where the value is a part of the text
+abbrev pub Lends : {S : Type 0} → Outcome S (List ℕ) → Result (Bor (List ℕ)) Refusal → S → Type 0
+Lends outcome (Ok a) new = outcome ≡ Some (a.now, new)
+Lends outcome (Err Outside) new = outcome ≡ None
+Lends outcome (Err NoMemory) new = Unit {0}
 
 -- the same, where the value stands behind a reference
 abbrev pub Leads : {S A U : Type 0} → Outcome S A → Result U Refusal → A → S → Type 0

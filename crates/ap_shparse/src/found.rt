@@ -18,8 +18,6 @@ pub(crate) struct Found {
     pub(crate) dollar: bool,
     /// Whether a `~` stands outside quotes.
     pub(crate) tilde: bool,
-    /// Whether there are quotes.
-    pub(crate) quoted: bool,
 }
 
 impl Found {
@@ -32,7 +30,6 @@ impl Found {
             inside: false,
             dollar: false,
             tilde: false,
-            quoted: false,
         }
     }
 

@@ -8,6 +8,8 @@ mod class; // bytes by their classes
 mod text; // what is left of a text
 mod found; // what was found of a word
 mod pieces; // the pieces of a word
+mod lines; // where a reading stands in a text
+mod here; // here-documents
 
 pub use tree::{
     Assign, Chain, Joined, Node, Nul, Part, Redirection, Script, ShellFault, Simple, Target, Word,

@@ -86,7 +86,6 @@ fn single(alloc: Global, text: &mut Text<'_>, found: &mut Found) -> Result<(), R
 {
     let bytes = text.run(Class::Quoted);
     text.expect(b'\'')?;
-    found.quoted = true;
     found.push_bytes(alloc, bytes)?;
     Ok(())
 }
@@ -183,8 +182,7 @@ impl<S: Substitution> Words<S> {
         }
         if text.eat(b'"') {
             found.inside = true;
-            found.quoted = true;
-            return Ok(());
+                    return Ok(());
         }
         if text.eat(b'$') {
             let part = self.dollar(text, false)?;
