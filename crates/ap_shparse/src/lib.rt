@@ -10,6 +10,13 @@ mod found; // what was found of a word
 mod pieces; // the pieces of a word
 mod lines; // where a reading stands in a text
 mod here; // here-documents
+mod words; // words and assignments
+mod redirect; // redirections
+mod elements; // what was found of a command
+mod simple; // simple commands
+mod item; // an item, and whether it stops the script
+mod lists; // lists and `if`
+mod script; // a whole text
 
 pub use tree::{
     Assign, Chain, Joined, Node, Nul, Part, Redirection, Script, ShellFault, Simple, Target, Word,

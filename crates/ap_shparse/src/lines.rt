@@ -2,9 +2,13 @@
 ghost use Rattle.std.specs.Prelude.{◌≡◌, length, Some};
 ghost use Rattle.ap_shparse.specs.Bytes as bytes;
 ghost use Rattle.ap_shparse.specs.Places.{at_text, newlines, next_line, past_newline, Place};
-ghost use Rattle.ap_shparse.specs.Reads.{Eats};
+ghost use Rattle.ap_shparse.specs.Commands.{alone, is_nil};
+ghost use Rattle.ap_shparse.specs.Scripts.{left_at, waits};
+ghost use Rattle.ap_shparse.specs.Reads.{Eats, Reads};
+ghost use Rattle.ap_shparse.specs.Lists.{ended, keyword};
 
 use crate::class::Class;
+use crate::refusal::Refusal;
 use crate::text::Text;
 use std::marker::Model;
 
@@ -26,6 +30,35 @@ impl<'a> Model for Lines<'a> {
 }
 
 impl<'a> Lines<'a> {
+    pub(crate) fn new(text: &'a [u8]) -> Lines<'a>
+        ensures { result ≡ alone text.now }
+    {
+        Lines {
+            text: Text::new(text),
+            bodies: None,
+        }
+    }
+
+    /// Whether a here-document waits for the next newline.
+    pub(crate) fn waits(&self) -> bool
+        ensures { result ≡ waits self.now }
+    {
+        self.bodies.is_some()
+    }
+
+    pub(crate) fn is_empty(&self) -> bool
+        ensures { result ≡ is_nil self.now.text }
+    {
+        self.text.is_empty()
+    }
+
+    /// How many bytes are left where an item begins, unless a here-document waits there.
+    pub(crate) fn left(&self, before: usize) -> usize
+        ensures { result ≡ left_at before self.now }
+    {
+        if self.waits() { before } else { self.text.len() }
+    }
+
     pub(crate) fn blanks(&mut self)
         ensures { self.new ≡ at_text self.old (bytes.after Class.Blank self.old.text) }
     {
@@ -57,6 +90,28 @@ impl<'a> Lines<'a> {
         if let Some(bodies) = self.bodies {
             self.text = Text::new(bodies);
             self.bodies = None;
+        }
+    }
+
+    /// Takes the newline or `;` that has to come next.
+    pub(crate) fn end(&mut self) -> Result<(), Refusal>
+        ensures { Reads (ended self.old) result self.new }
+    {
+        if self.text.eat(b';') || self.eat_newline() {
+            Ok(())
+        } else {
+            Err(Refusal::Outside)
+        }
+    }
+
+    /// Takes the word that has to come next as a whole.
+    pub(crate) fn keyword(&mut self, word: &[u8]) -> Result<(), Refusal>
+        ensures { Reads (keyword word.now self.old) result self.new }
+    {
+        if self.text.eat_word(word) {
+            Ok(())
+        } else {
+            Err(Refusal::Outside)
         }
     }
 

@@ -22,6 +22,7 @@ pub(crate) trait Substitution {
 }
 
 /// Reads words, in which `$(` may stand before what `sub` reads.
+#[derive(Drop)]
 pub(crate) struct Words<S> {
     pub(crate) alloc: Global,
     pub(crate) sub: S,

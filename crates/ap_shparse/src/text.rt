@@ -3,6 +3,9 @@ ghost use Rattle.std.specs.Prelude.{◌≡◌, length, slice_get, option_map, []
 ghost use Rattle.std.specs.Option.{option_copied};
 ghost use Rattle.ap_shparse.specs.Bytes.{run, after, gap, ends_word, past, past_byte};
 ghost use Rattle.ap_shparse.specs.Reads.{Eats, Reads};
+ghost use Rattle.ap_shparse.specs.Words.{begins_with};
+ghost use Rattle.ap_shparse.specs.Commands.{sees};
+ghost use Rattle.ap_shparse.specs.Lists.{past_twice};
 ghost use Rattle.ap_shparse.specs.Pieces.{begins_name, expect};
 
 use crate::class::{self, Class};
@@ -101,6 +104,37 @@ impl<'a> Text<'a> {
             }
             _ => false,
         }
+    }
+
+    /// Whether this byte comes next.
+    pub(crate) fn sees_byte(&self, byte: u8) -> bool
+        ensures { result ≡ begins_with byte self.now }
+    {
+        match self.rest {
+            [first, ..] => *first == byte,
+            [] => false,
+        }
+    }
+
+    /// Takes this byte twice, where it comes next twice.
+    pub(crate) fn eat_twice(&mut self, byte: u8) -> bool
+        ensures { Eats (past_twice byte self.old) result self.old self.new }
+    {
+        match self.rest {
+            [first, second, rest @ ..] if *first == byte && *second == byte => {
+                self.rest = rest;
+                true
+            }
+            _ => false,
+        }
+    }
+
+    /// Whether this word comes next as a whole.
+    pub(crate) fn sees(&self, word: &[u8]) -> bool
+        ensures { result ≡ sees word.now self.now }
+    {
+        let mut rest = Text { rest: self.rest };
+        rest.eat_word(word)
     }
 
     /// Takes the longest run of bytes of a class.
