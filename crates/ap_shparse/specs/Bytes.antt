@@ -1,5 +1,5 @@
 -- The bytes of a text by their classes (POSIX.1, 2.2 and 2.3), and the runs of a text.
-use Rattle.std.specs.Prelude.{ℕ, List, [], ◌∷◌, Option, Some, None, Bool, true, false, ◌==◌, ◌||◌, ◌&&◌, not, nat_le, if◌then◌else◌, codes}
+use Rattle.std.specs.Prelude.{ℕ, List, [], ◌∷◌, Option, Some, None, Bool, true, ◌==◌, ◌||◌, ◌&&◌, not, nat_le, if◌then◌else◌}
 use Rattle.std.specs.List.{list_any}
 use Rattle.ap_shparse.specs.declared.class.Class.{Class}
 use Rattle.ap_shparse.specs.declared.class.Class.TheVariants.{Blank, Comment, Quoted, Digit, Name, Fallback}

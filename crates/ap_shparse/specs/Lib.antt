@@ -8,3 +8,4 @@ pub mod Commands
 pub mod Lists
 pub mod Nests
 pub mod Scripts
+pub mod Grammar

@@ -1,10 +1,9 @@
 -- Lists, AND-OR lists and `if` (POSIX.1, 2.9.3 and 2.9.4.4).
-use Rattle.std.specs.Prelude.{ℕ, zero, suc, List, [], ◌∷◌, ◌++◌, Option, Some, None, Bool, true, false, ◌||◌, ◌&&◌, not, if◌then◌else◌, length, is_some, codes}
+use Rattle.std.specs.Prelude.{ℕ, zero, suc, List, [], ◌∷◌, ◌++◌, Option, Some, None, Bool, true, false, ◌||◌, ◌&&◌, if◌then◌else◌, length, codes}
 use Rattle.ap_shparse.specs.Bytes.{Text, gap, past, past_byte}
 use Rattle.ap_shparse.specs.Reads.{Outcome, and_then, eaten, if_eaten, pure, ◌>>=◌}
 use Rattle.ap_shparse.specs.Places.{Place, at_text, lift, newlines, past_newline}
 use Rattle.ap_shparse.specs.Commands.{is_nil, past_blanks, sees, simple, substitution}
-use Rattle.ap_shparse.specs.declared.elements.Called.{Called}
 use Rattle.ap_shparse.specs.declared.item.Item.{Item}
 use Rattle.ap_shparse.specs.declared.item.Member.{Member}
 use Rattle.ap_shparse.specs.declared.tree.Chain.{Chain, roll-Chain}

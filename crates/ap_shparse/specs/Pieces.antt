@@ -1,5 +1,5 @@
 -- The pieces of a word: plain bytes, quotes and expansions (POSIX.1, 2.2 and 2.6).
-use Rattle.std.specs.Prelude.{ℕ, zero, suc, List, [], ◌∷◌, ◌++◌, Option, Some, None, Bool, true, false, ◌==◌, ◌||◌, ◌&&◌, not, if◌then◌else◌, length}
+use Rattle.std.specs.Prelude.{ℕ, zero, suc, List, [], ◌∷◌, ◌++◌, Some, None, Bool, true, false, ◌==◌, ◌||◌, ◌&&◌, not, if◌then◌else◌, length}
 use Rattle.ap_shparse.specs.Bytes.{Text, after, ends_word, is_among, is_letter, is_plain, past_byte, run}
 use Rattle.ap_shparse.specs.Reads.{Outcome, and_then, eaten, if_eaten, ◌>>=◌, pure}
 use Rattle.ap_shparse.specs.declared.class.Class.TheVariants.{Quoted, Name, Fallback}

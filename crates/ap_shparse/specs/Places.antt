@@ -1,9 +1,9 @@
 -- Where a reading stands in a text, and the here-documents that wait there (POSIX.1, 2.7.4).
-use Rattle.std.specs.Prelude.{ℕ, zero, suc, List, [], ◌∷◌, ◌++◌, Option, Some, None, Bool, true, false, ◌&&◌, ◌||◌, not, if◌then◌else◌, length, is_some, unwrap_or}
+use Rattle.std.specs.Prelude.{ℕ, zero, suc, List, [], ◌∷◌, ◌++◌, Option, Some, None, Bool, false, ◌&&◌, not, if◌then◌else◌, length, unwrap_or}
 use Rattle.ap_shparse.specs.Bytes.{Text, after, ends_word, gap, is_among, past, past_byte, run}
-use Rattle.ap_shparse.specs.Reads.{Outcome, and_then, if_eaten, ◌>>=◌, pure}
+use Rattle.ap_shparse.specs.Reads.{Outcome, and_then, if_eaten, pure}
 use Rattle.ap_shparse.specs.Pieces.{expect, pieces}
-use Rattle.ap_shparse.specs.declared.class.Class.TheVariants.{Blank, Comment, Quoted}
+use Rattle.ap_shparse.specs.declared.class.Class.TheVariants.{Comment, Quoted}
 use Rattle.ap_shparse.specs.declared.tree.Simple.{Simple}
 use Rattle.std.specs.Str.{bytes_eq}
 

@@ -1,5 +1,5 @@
 -- A whole text: the script that it is, or what is left where the first item begins that can't be taken.
-use Rattle.std.specs.Prelude.{◌≡◌, ℕ, zero, suc, List, [], ◌∷◌, ◌++◌, Option, Some, None, Result, Ok, Err, Bool, true, false, ◌&&◌, ◌==◌, ◌-◌, not, if◌then◌else◌, length, is_some}
+use Rattle.std.specs.Prelude.{◌≡◌, ℕ, zero, suc, List, [], ◌∷◌, ◌++◌, Some, None, Result, Ok, Err, Bool, ◌&&◌, ◌-◌, not, if◌then◌else◌, length, is_some}
 use Rattle.ap_shparse.specs.Bytes.{Text}
 use Rattle.ap_shparse.specs.Reads.{Outcome, and_then}
 use Rattle.ap_shparse.specs.Places.{Place, newlines}

@@ -1,10 +1,10 @@
 -- Words and assignments (POSIX.1, 2.3, 2.4 and 2.9.1).
-use Rattle.std.specs.Prelude.{ℕ, List, [], ◌∷◌, Option, Some, None, Bool, true, false, ◌==◌, ◌||◌, ◌&&◌, not, if◌then◌else◌, is_some, codes}
-use Rattle.ap_shparse.specs.Bytes.{Text, after, ends_word, is_among, is_digit, is_plain, past, past_byte}
-use Rattle.ap_shparse.specs.Reads.{Outcome, and_then, if_eaten, ◌>>=◌, pure}
+use Rattle.std.specs.Prelude.{ℕ, List, [], ◌∷◌, Some, None, Bool, false, ◌==◌, ◌||◌, ◌&&◌, not, if◌then◌else◌, is_some}
+use Rattle.ap_shparse.specs.Bytes.{Text, after, is_among, is_plain, past, past_byte}
+use Rattle.ap_shparse.specs.Reads.{Outcome, and_then, if_eaten, pure}
 use Rattle.ap_shparse.specs.Pieces.{begins_name, expect, name, parts_of, pieces}
 use Rattle.ap_shparse.specs.Places.{bracket}
-use Rattle.ap_shparse.specs.declared.class.Class.TheVariants.{Digit, Name}
+use Rattle.ap_shparse.specs.declared.class.Class.TheVariants.{Name}
 use Rattle.ap_shparse.specs.declared.tree.Assign.{Assign, roll-Assign}
 use Rattle.ap_shparse.specs.declared.tree.Simple.{Simple}
 use Rattle.ap_shparse.specs.declared.tree.Part.TheVariants as part

@@ -63,7 +63,12 @@ impl Elements {
         is_nil(&self.words)
     }
 
-    pub(crate) fn push_redirection(&mut self, operator: Operator, number: u8, to: Target) -> Result<(), AllocError>
+    pub(crate) fn push_redirection(
+        &mut self,
+        operator: Operator,
+        number: u8,
+        to: Target,
+    ) -> Result<(), AllocError>
         ensures { OnOk result (self.new ≡ spec.with_redirection self.old operator number to) }
     {
         self.here = self.here || is_here(operator);
@@ -92,9 +97,18 @@ impl Elements {
     {
         let leaves = leaves(self.calls);
         let stops = stops(self.calls, self.more);
-        let Elements { assigns, words, redirections, .. } = self;
+        let Elements {
+            assigns,
+            words,
+            redirections,
+            ..
+        } = self;
         Called {
-            simple: Simple { assigns, words, redirections },
+            simple: Simple {
+                assigns,
+                words,
+                redirections,
+            },
             leaves,
             stops,
         }

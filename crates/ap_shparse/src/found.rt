@@ -66,7 +66,11 @@ impl Found {
     pub(crate) fn into_parts(self) -> Result<Items<Part>, AllocError>
         ensures { IfOk result (λ ps. ps ≡ parts_of self) }
     {
-        let Found { mut parts, text, .. } = self;
+        let Found {
+            mut parts,
+            text,
+            ..
+        } = self;
         if !text.is_empty() {
             parts.push(Part::Text { bytes: text })?;
         }

@@ -17,7 +17,10 @@ mod simple; // simple commands
 mod item; // an item, and whether it stops the script
 mod lists; // lists and `if`
 mod script; // a whole text
+mod seen; // texts without their NULs
+mod grammar; // the script of a text
 
+pub use grammar::parse;
 pub use tree::{
     Assign, Chain, Joined, Node, Nul, Part, Redirection, Script, ShellFault, Simple, Target, Word,
 };

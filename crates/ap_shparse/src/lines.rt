@@ -56,7 +56,11 @@ impl<'a> Lines<'a> {
     pub(crate) fn left(&self, before: usize) -> usize
         ensures { result ≡ left_at before self.now }
     {
-        if self.waits() { before } else { self.text.len() }
+        if self.waits() {
+            before
+        } else {
+            self.text.len()
+        }
     }
 
     pub(crate) fn blanks(&mut self)

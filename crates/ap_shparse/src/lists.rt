@@ -24,7 +24,11 @@ pub(crate) struct Lists<F> {
 }
 
 /// A list in which `if` nests less than `depth` deep.
-pub(crate) fn list(alloc: Global, lines: &mut Lines<'_>, depth: usize) -> Result<Items<Chain>, Refusal>
+pub(crate) fn list(
+    alloc: Global,
+    lines: &mut Lines<'_>,
+    depth: usize,
+) -> Result<Items<Chain>, Refusal>
     ensures { Reads (spec.list depth lines.old) result lines.new }
 {
     if depth == 0 {
@@ -125,7 +129,12 @@ impl<F: Fn(Global, &mut Lines<'_>, usize) -> Result<Items<Chain>, Refusal>> List
 
     // Behind `||` or `&&`.
     #[tactic(auto, unfolding(crate::specs::Lists::join))]
-    fn join(&self, found: &mut Items<Joined>, or: bool, lines: &mut Lines<'_>) -> Result<(), Refusal>
+    fn join(
+        &self,
+        found: &mut Items<Joined>,
+        or: bool,
+        lines: &mut Lines<'_>,
+    ) -> Result<(), Refusal>
         requires { Nests self.now.depth (F.pre self.now.list) (F.post self.now.list) }
         ensures { Leads (spec.join (spec.list self.now.depth) found.old or lines.old) result found.new lines.new }
     {

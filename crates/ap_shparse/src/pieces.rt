@@ -51,7 +51,12 @@ fn other(alloc: Global, text: &mut Text<'_>, inside: bool) -> Result<Items<u8>, 
 
 // `:-w}` of `${name:-w}`.
 #[tactic(auto, unfolding(crate::specs::Pieces::fallback))]
-fn fallback(alloc: Global, text: &mut Text<'_>, inside: bool, name: Items<u8>) -> Result<Part, Refusal>
+fn fallback(
+    alloc: Global,
+    text: &mut Text<'_>,
+    inside: bool,
+    name: Items<u8>,
+) -> Result<Part, Refusal>
     ensures { Reads (spec.fallback inside name text.old) result text.new }
 {
     text.expect(b':')?;
@@ -183,7 +188,7 @@ impl<S: Substitution> Words<S> {
         }
         if text.eat(b'"') {
             found.inside = true;
-                    return Ok(());
+            return Ok(());
         }
         if text.eat(b'$') {
             let part = self.dollar(text, false)?;

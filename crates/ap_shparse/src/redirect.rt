@@ -109,7 +109,9 @@ fn same(text: &mut Text<'_>) -> Result<Target, Refusal>
 {
     let _blanks = text.run(Class::Blank);
     match text.next() {
-        Some(digit) if is_same(digit, text) => Ok(Target::Same { number: digit - b'0' }),
+        Some(digit) if is_same(digit, text) => Ok(Target::Same {
+            number: digit - b'0',
+        }),
         _ => Err(Refusal::Outside),
     }
 }
@@ -157,7 +159,11 @@ impl<S: Substitution> Words<S> {
 
     /// What follows the operator.
     #[tactic(auto, unfolding(crate::specs::Redirects::target_of))]
-    pub(crate) fn target(&self, operator: Operator, lines: &mut Lines<'_>) -> Result<Target, Refusal>
+    pub(crate) fn target(
+        &self,
+        operator: Operator,
+        lines: &mut Lines<'_>,
+    ) -> Result<Target, Refusal>
         ensures { Reads (spec.target_of (S.reads self.now.sub) operator lines.old) result lines.new }
     {
         match operator {

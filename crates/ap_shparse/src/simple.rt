@@ -7,11 +7,10 @@ use crate::class::Class;
 use crate::elements::{self, Called, Calls, Elements};
 use crate::lines::Lines;
 use crate::pieces::{Substitution, Words};
-use crate::redirect;
 use crate::refusal::Refusal;
 use crate::text::Text;
 use crate::tree::Simple;
-use crate::words;
+use crate::{redirect, words};
 use std::alloc::Global;
 
 const ARGS: &[u8] = b"\"$@\"";
@@ -25,7 +24,8 @@ fn is_keyword(text: &Text<'_>) -> bool
 fn is_loop(text: &Text<'_>) -> bool
     ensures { result ≡ spec.is_loop text.now }
 {
-    text.sees(b"while") || (text.sees(b"until") || (text.sees(b"for") || (text.sees(b"do") || text.sees(b"done"))))
+    text.sees(b"while")
+        || (text.sees(b"until") || (text.sees(b"for") || (text.sees(b"do") || text.sees(b"done"))))
 }
 
 fn is_left_out(text: &Text<'_>) -> bool
@@ -176,7 +176,10 @@ impl Substitution for CommandSubstitution {
     fn read(&self, alloc: Global, text: &mut Text<'_>) -> Result<Simple, Refusal> {
         let _blanks = text.run(Class::Blank);
         let mut lines = Lines::new(text.as_slice());
-        let words = Words { alloc, sub: NoSubstitution };
+        let words = Words {
+            alloc,
+            sub: NoSubstitution,
+        };
         let called = words.simple(true, &mut lines)?;
         if called.leaves {
             return Err(Refusal::Outside);

@@ -24,7 +24,8 @@ fn begins_word(text: &Text<'_>) -> bool
 {
     match text.first() {
         None => false,
-        Some(first) => first == b'\'' || (first == b'"' || class::is_plain(first) && !NOT_FIRST.contains(&first)),
+        Some(first) => first == b'\''
+            || (first == b'"' || class::is_plain(first) && !NOT_FIRST.contains(&first)),
     }
 }
 

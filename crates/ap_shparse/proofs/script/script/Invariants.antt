@@ -1,4 +1,4 @@
-use Rattle.std.proofs.Common.{◌≡◌, ◌-◌, ◌≤◌, length}
+use Rattle.std.proofs.Common.{◌≡◌, ◌-◌}
 use Rattle.ap_shparse.specs.Lists.{chain, list}
 use Rattle.ap_shparse.specs.Scripts.{script, script_from}
 use Rattle.ap_shparse.proofs.script.script.Given as goal
