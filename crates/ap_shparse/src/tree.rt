@@ -1,6 +1,7 @@
 //! The command tree of a script. In each struct the parts stand in the order of the text.
 
 use sqlite_items::Items;
+use std::alloc::AllocError;
 
 /// How NUL bytes of a text are read.
 #[derive(Clone, Copy, Debug, PartialEq, Eq)]
@@ -120,4 +121,15 @@ pub enum ShellFault {
     /// The text isn't in the grammar. `at` is the length of its longest whole front, in bytes of the text as it is given.
     Outside { at: u64 },
     NoMemory,
+}
+
+impl From<AllocError> for ShellFault {
+    ghost use Rattle.std.specs.Prelude.{◌≡◌};
+    ghost use Rattle.ap_shparse.specs.declared.tree.ShellFault.TheVariants.{NoMemory};
+
+    ghost from_gives = { λ _ e. e ≡ NoMemory };
+
+    fn from(_error: AllocError) -> ShellFault {
+        ShellFault::NoMemory
+    }
 }
