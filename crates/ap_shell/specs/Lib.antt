@@ -13,3 +13,4 @@ pub mod Redirecting
 pub mod Obeying
 pub mod Simples
 pub mod Meaning
+pub mod Runs

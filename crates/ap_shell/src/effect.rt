@@ -8,7 +8,7 @@ use crate::done::{Done, plain};
 use crate::exits::{exec, exit};
 use crate::map::Files;
 use crate::names::Command;
-use crate::texts::{command_v, printf, test_status, uname};
+use crate::text_commands::{command_v, printf, test_status, uname};
 use crate::types::Env;
 use sqlite_items::Items;
 use std::alloc::{AllocError, Global};

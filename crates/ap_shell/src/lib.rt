@@ -11,14 +11,15 @@ mod copies; // copies of texts
 mod places; // files by their names
 mod copy_commands; // `cp` and `chmod`
 mod dd; // `dd`
-mod texts; // `uname`, `printf`, `command` and `[`
+mod text_commands; // `uname`, `printf`, `command` and `[`
 mod exits; // `exit` and `exec`
 mod effect; // each command with its words
 mod redirect; // where outputs go
 mod obey; // a command, once its words, redirections and assignments are done
 mod expand; // words, redirections, assignments and simple commands
-mod lists; // commands in turn, and a script
+mod lists; // commands in turn
+mod script; // a script, from its start to its end
 
-pub use lists::run;
 pub use map::{Files, HostFile};
+pub use script::{run, run_script};
 pub use types::{Env, Host, Outcome};

@@ -1,6 +1,6 @@
 use Rattle.std.proofs.Common.{◌∙◌, ap, sym, map}
 use Rattle.ap_shell.specs.Meaning.{chain_meaning, finished, in_turn, shell_meaning}
-use Rattle.ap_shell.proofs.lists.run.Goals as goal
+use Rattle.ap_shell.proofs.script.run.Goals as goal
 
 pub returns : goal.returns
 unfolding shell_meaning
