@@ -1,8 +1,8 @@
 -- Lists, AND-OR lists and `if` (POSIX.1, 2.9.3 and 2.9.4.4).
 use Rattle.std.specs.Prelude.{ℕ, zero, suc, List, [], ◌∷◌, ◌++◌, Option, Some, None, Bool, true, false, ◌||◌, ◌&&◌, if◌then◌else◌, length, codes}
-use Rattle.ap_shparse.specs.Bytes.{Text, gap, past, past_byte}
+use Rattle.ap_shparse.specs.Bytes.{Text, past, past_byte}
 use Rattle.ap_shparse.specs.Reads.{Outcome, and_then, eaten, if_eaten, pure, ◌>>=◌}
-use Rattle.ap_shparse.specs.Places.{Place, at_text, lift, newlines, past_newline}
+use Rattle.ap_shparse.specs.Places.{Place, at_text, lift, newlines, past_gap, past_newline}
 use Rattle.ap_shparse.specs.Commands.{is_nil, past_blanks, sees, simple, substitution}
 use Rattle.ap_shparse.specs.declared.item.Item.{Item}
 use Rattle.ap_shparse.specs.declared.item.Member.{Member}
@@ -54,7 +54,7 @@ joined or n = roll-Joined (record { or = or; node = n })
 
 -- newlines may stand behind `||` and `&&`
 unfoldable pub join : Lists → List Joined → Bool → Place → Outcome Place (List Joined)
-join below found or p = and_then (command below (newlines p)) (λ m. pure (found ++ joined or m.node ∷ []))
+join below found or p = if_eaten (newlines p) (λ q. and_then (command below q) (λ m. pure (found ++ joined or m.node ∷ []))) None
 
 abbrev pub others_by : (Bool → Place → Outcome Place (List Joined)) → List Joined → Place → Outcome Text Bool → Outcome Place (List Joined)
 others_by next found p None = Some (found, p)
@@ -81,9 +81,6 @@ past_end p = if_eaten (past_byte 59 p.text) (λ t. Some (at_text p t)) (past_new
 abbrev pub ended : Place → Outcome Place (Unit {0})
 ended p = eaten (past_end p)
 
-abbrev pub past_gap : Place → Place
-past_gap p = at_text p (gap p.text)
-
 -- an item with its end
 unfoldable pub next_item : Lists → List Chain → Place → Outcome Place (List Chain)
 next_item below found p = and_then (chain below p) (λ c q. and_then (ended (past_gap q)) (λ _. pure (found ++ c.chain ∷ [])))
@@ -95,7 +92,8 @@ closes t = sees (codes "then") t || (sees (codes "else") t || sees (codes "fi") 
 -- the number bounds the turns
 unfoldable pub items_from : Lists → ℕ → List Chain → Lists
 items_from below zero found p = None
-items_from below (suc n) found p = if closes (newlines p).text then Some (found, newlines p) else and_then (next_item below found (newlines p)) (items_from below n)
+items_from below (suc n) found p =
+    if_eaten (newlines p) (λ q. if closes q.text then Some (found, q) else and_then (next_item below found q) (items_from below n)) None
 
 unfoldable pub items : Lists → Lists
 items below p = and_then (items_from below (length p.text) [] p) (λ found q. if is_nil found then None else Some (found, q))

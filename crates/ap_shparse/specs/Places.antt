@@ -1,5 +1,5 @@
 -- Where a reading stands in a text, and the here-documents that wait there (POSIX.1, 2.7.4).
-use Rattle.std.specs.Prelude.{ℕ, zero, suc, List, [], ◌∷◌, ◌++◌, Option, Some, None, Bool, false, ◌&&◌, not, if◌then◌else◌, length, unwrap_or}
+use Rattle.std.specs.Prelude.{ℕ, zero, suc, List, [], ◌∷◌, ◌++◌, Option, Some, None, Bool, false, ◌&&◌, not, if◌then◌else◌, length, unwrap_or, is_some}
 use Rattle.ap_shparse.specs.Bytes.{Text, after, ends_word, gap, is_among, past, past_byte, run}
 use Rattle.ap_shparse.specs.Reads.{Outcome, and_then, if_eaten, pure}
 use Rattle.ap_shparse.specs.Pieces.{expect, pieces}
@@ -28,15 +28,22 @@ next_line p t = record p { text = unwrap_or p.bodies t; bodies = None }
 abbrev pub past_newline : Place → Option Place
 past_newline p = if_eaten (past_byte 10 p.text) (λ t. Some (next_line p t)) None
 
-abbrev pub newlines_by : (Place → Place) → Place → Place
-newlines_by next p = if_eaten (past_newline p) next p
+abbrev pub past_gap : Place → Place
+past_gap p = at_text p (gap p.text)
 
--- blanks, comments and newlines; the number bounds the turns
-unfoldable pub newlines_from : ℕ → Place → Place
-newlines_from zero p = p
-newlines_from (suc n) p = newlines_by (newlines_from n) (at_text p (gap p.text))
+-- no newline comes next
+abbrev pub no_newline : Place → Option Place
+no_newline p = if is_some (past_newline p) then None else Some p
 
-unfoldable pub newlines : Place → Place
+abbrev pub newlines_by : (Place → Option Place) → Place → Option Place
+newlines_by next p = if_eaten (past_newline p) next (Some p)
+
+-- behind blanks, comments and newlines; the number bounds the turns
+unfoldable pub newlines_from : ℕ → Place → Option Place
+newlines_from zero p = no_newline (past_gap p)
+newlines_from (suc n) p = newlines_by (newlines_from n) (past_gap p)
+
+unfoldable pub newlines : Place → Option Place
 newlines p = newlines_from (length p.text) p
 
 -- ---- here-documents

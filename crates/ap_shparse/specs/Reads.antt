@@ -50,3 +50,8 @@ abbrev pub Leads : {S A U : Type 0} → Outcome S A → Result U Refusal → A �
 Leads outcome (Ok _) a new = outcome ≡ Some (a, new)
 Leads outcome (Err Outside) a new = outcome ≡ None
 Leads outcome (Err NoMemory) a new = Unit {0}
+
+-- where the reading went, or that there is no such place
+abbrev pub Goes : {S : Type 0} → Option S → Bool → S → Type 0
+Goes place true new = place ≡ Some new
+Goes place false new = place ≡ None

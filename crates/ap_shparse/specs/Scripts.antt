@@ -1,10 +1,10 @@
 -- A whole text: the script that it is, or what is left where the first item begins that can't be taken.
-use Rattle.std.specs.Prelude.{◌≡◌, ℕ, zero, suc, List, [], ◌∷◌, ◌++◌, Some, None, Result, Ok, Err, Bool, ◌&&◌, ◌-◌, not, if◌then◌else◌, length, is_some}
+use Rattle.std.specs.Prelude.{◌≡◌, ℕ, zero, suc, List, [], ◌∷◌, ◌++◌, Some, None, Result, Ok, Err, Bool, ◌&&◌, ◌-◌, not, if◌then◌else◌, length, is_some, min}
 use Rattle.ap_shparse.specs.Bytes.{Text}
-use Rattle.ap_shparse.specs.Reads.{Outcome, and_then}
-use Rattle.ap_shparse.specs.Places.{Place, newlines}
+use Rattle.ap_shparse.specs.Reads.{Outcome, and_then, if_eaten}
+use Rattle.ap_shparse.specs.Places.{Place, newlines, past_gap}
 use Rattle.ap_shparse.specs.Commands.{alone, is_nil}
-use Rattle.ap_shparse.specs.Lists.{chain, ended, list, past_gap}
+use Rattle.ap_shparse.specs.Lists.{chain, ended, list}
 use Rattle.ap_shparse.specs.declared.item.Item.{Item}
 use Rattle.ap_shparse.specs.declared.script.Turn.{Turn}
 use Rattle.ap_shparse.specs.declared.script.Turn.TheVariants as turned
@@ -40,12 +40,13 @@ by_turn next left found (Some (turned.Next c, q)) = next left (found ++ c ∷ []
 
 -- an item that begins while a here-document waits can't be told from the one before it
 abbrev pub left_at : ℕ → Place → ℕ
-left_at left p = if waits p then left else length p.text
+left_at left p = if waits p then left else min left (length p.text)
 
 -- the number bounds the turns
 unfoldable pub script_from : (Place → Outcome Place Item) → ℕ → ℕ → List Chain → Place → Answer
 script_from item zero left found p = Ok found
-script_from item (suc n) left found p = by_turn (script_from item n) (left_at left (newlines p)) found (turn item (newlines p))
+script_from item (suc n) left found p =
+    if_eaten (newlines p) (λ q. by_turn (script_from item n) (left_at left q) found (turn item q)) (Err left)
 
 -- `if` nests 64 deep
 unfoldable pub script : Text → Answer

@@ -4,7 +4,7 @@ ghost use Rattle.ap_shparse.specs.Bytes as bytes;
 ghost use Rattle.ap_shparse.specs.Places.{at_text, newlines, next_line, past_newline, Place};
 ghost use Rattle.ap_shparse.specs.Commands.{alone, is_nil};
 ghost use Rattle.ap_shparse.specs.Scripts.{left_at, waits};
-ghost use Rattle.ap_shparse.specs.Reads.{Eats, Reads};
+ghost use Rattle.ap_shparse.specs.Reads.{Eats, Goes, Reads};
 ghost use Rattle.ap_shparse.specs.Lists.{ended, keyword};
 
 use crate::class::Class;
@@ -59,7 +59,7 @@ impl<'a> Lines<'a> {
         if self.waits() {
             before
         } else {
-            self.text.len()
+            before.min(self.text.len())
         }
     }
 
@@ -121,15 +121,17 @@ impl<'a> Lines<'a> {
 
     /// Takes blanks, comments and newlines.
     #[tactic(auto, unfolding(crate::specs::Places::newlines, crate::specs::Places::newlines_from))]
-    pub(crate) fn newlines(&mut self)
-        ensures { self.new ≡ newlines self.old }
+    pub(crate) fn newlines(&mut self) -> bool
+        ensures { Goes (newlines self.old) result self.new }
     {
         let turns = self.text.len();
         for _turn in 0..turns {
             self.gap();
             if !self.eat_newline() {
-                return;
+                return true;
             }
         }
+        self.gap();
+        !self.eat_newline()
     }
 }

@@ -138,7 +138,9 @@ impl<F: Fn(Global, &mut Lines<'_>, usize) -> Result<Items<Chain>, Refusal>> List
         requires { Nests self.now.depth (F.pre self.now.list) (F.post self.now.list) }
         ensures { Leads (spec.join (spec.list self.now.depth) found.old or lines.old) result found.new lines.new }
     {
-        lines.newlines();
+        if !lines.newlines() {
+            return Err(Refusal::Outside);
+        }
         let member = self.command(lines)?;
         let Member { node, .. } = member;
         found.push(Joined { or, node })?;
@@ -199,7 +201,9 @@ impl<F: Fn(Global, &mut Lines<'_>, usize) -> Result<Items<Chain>, Refusal>> List
     {
         let mut found = Items::new(self.alloc);
         for _turn in 0..turns {
-            lines.newlines();
+            if !lines.newlines() {
+                return Err(Refusal::Outside);
+            }
             if closes(&lines.text) {
                 return Ok(found);
             }

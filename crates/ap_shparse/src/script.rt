@@ -1,5 +1,5 @@
 //! A whole text, item by item.
-ghost use Rattle.std.specs.Prelude.{◌≡◌, length};
+ghost use Rattle.std.specs.Prelude.{◌≡◌, length, ◌-◌};
 ghost use Rattle.ap_shparse.specs.Lists as lists;
 ghost use Rattle.ap_shparse.specs.Scripts as spec;
 ghost use Rattle.ap_shparse.specs.Reads.{Reads};
@@ -80,6 +80,14 @@ fn next_turn(alloc: Global, lines: &mut Lines<'_>) -> Result<Turn, Refusal>
     at_end(item, lines)
 }
 
+fn outside(len: usize, left: usize) -> ShellFault
+    ensures { result ≡ ShellFault.Outside (len - left) }
+{
+    ShellFault::Outside {
+        at: len.saturating_sub(left) as u64,
+    }
+}
+
 /// The items of a text.
 #[tactic(auto, unfolding(crate::specs::Scripts::script, crate::specs::Scripts::script_from))]
 pub(crate) fn script(alloc: Global, text: &[u8]) -> Result<Items<Chain>, ShellFault>
@@ -90,13 +98,13 @@ pub(crate) fn script(alloc: Global, text: &[u8]) -> Result<Items<Chain>, ShellFa
     let mut lines = Lines::new(text);
     let mut found = Items::new(alloc);
     for _turn in 0..turns {
-        lines.newlines();
+        if !lines.newlines() {
+            return Err(outside(turns, left));
+        }
         left = lines.left(left);
         match next_turn(alloc, &mut lines) {
             Err(Refusal::NoMemory) => return Err(ShellFault::NoMemory),
-            Err(Refusal::Outside) => return Err(ShellFault::Outside {
-                at: turns.saturating_sub(left) as u64,
-            }),
+            Err(Refusal::Outside) => return Err(outside(turns, left)),
             Ok(Turn::End) => return Ok(found),
             Ok(Turn::Last(chain)) => {
                 found.push(chain)?;
