@@ -7,3 +7,5 @@ pub mod WriteLemmas
 pub mod WindowLemmas
 pub mod KeptBytes
 pub mod EmbedLemmas
+pub mod DdOntoItself
+pub mod DdPlaces

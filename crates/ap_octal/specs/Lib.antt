@@ -3,3 +3,5 @@ pub mod OctalReading
 pub mod OctalSteps
 pub mod Statement
 pub mod Embedded
+pub mod DdEffect
+pub mod DdPlace

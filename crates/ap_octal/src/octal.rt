@@ -23,8 +23,9 @@ pub(crate) fn octal_bytes(text: &[u8]) -> Option<([u8; HEADER_SIZE], usize)>
     Some((first, count))
 }
 
-// The byte that the text's front stands for, and the length of that front.
-fn next_byte(text: &[u8]) -> Option<(u8, usize)>
+/// The byte that the text's front stands for, and the length of that front. None where it stands for no byte, so that the
+/// text isn't octal text.
+pub fn next_byte(text: &[u8]) -> Option<(u8, usize)>
     requires { 0 < length text.now }
     ensures { MatchOption result (IsNoOctal text.now) (λ p. Begins text.now p.0 p.1) }
 {

@@ -31,8 +31,8 @@ pub(crate) fn closing_quote(file: &[u8], from: usize) -> Option<usize>
     Some(from + place)
 }
 
-// The first 8192 bytes of a file, or all that it has.
-fn window_of(file: &[u8]) -> &[u8]
+/// The first 8192 bytes of a file, or all that it has.
+pub(crate) fn window_of(file: &[u8]) -> &[u8]
     ensures len { length result.now ≡ min WINDOW (length file.now) }
     ensures bytes { result.now ≡ take WINDOW file.now }
 {

@@ -16,3 +16,16 @@ pub struct Decoded {
     /// The place of the closing quote in the file.
     pub end: usize,
 }
+
+/// A `dd` statement of a file, which copies blocks of the file onto the file's front.
+#[derive(Clone, Copy, Debug, PartialEq, Eq, Drop)]
+pub struct DdStatement {
+    /// The place of its first blank.
+    pub at: usize,
+    /// The bytes of a block.
+    pub size: u32,
+    /// The blocks in front of those that are copied.
+    pub skip: u32,
+    /// The blocks that are copied.
+    pub count: u32,
+}

@@ -1,0 +1,7 @@
+mod Layers
+mod MapLemmas
+mod Carried
+mod ListTurns
+mod TextLemmas
+mod OctalLemmas
+mod DdLemmas

@@ -1,0 +1,16 @@
+pub mod Files
+pub mod Places
+pub mod Names
+pub mod Ends
+pub mod FileCommands
+pub mod DdCommand
+pub mod TextCommands
+pub mod EndCommands
+pub mod Commands
+pub mod Steps
+pub mod Words
+pub mod Redirecting
+pub mod Obeying
+pub mod Simples
+pub mod Meaning
+pub mod Runs

@@ -1,0 +1,4 @@
+use Rattle.ap_shparse.proofs.lists.+list.Given as goal
+
+abbrev pub decreases-list : goal.decreases-list
+decreases-list l = l.depth

@@ -1,0 +1,11 @@
+pub mod Bytes
+pub mod Reads
+pub mod Pieces
+pub mod Places
+pub mod Words
+pub mod Redirects
+pub mod Commands
+pub mod Lists
+pub mod Nests
+pub mod Scripts
+pub mod Grammar

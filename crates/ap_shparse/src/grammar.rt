@@ -1,0 +1,40 @@
+//! The script of a text.
+ghost use Rattle.std.specs.Prelude.{◌≡◌, IfOk, IfErr, List};
+ghost use Rattle.ap_shparse.specs.Grammar.{IsOutside, IsScript, ReadsAs};
+ghost use Rattle.ap_shparse.specs.declared.tree.Chain.{Chain};
+
+use crate::script::script;
+use crate::seen;
+use crate::tree::{Nul, Script, ShellFault};
+use std::alloc::Global;
+
+/// The script that the grammar gives the text.
+///
+/// `Outside`: the text isn't in the grammar. Its place is the length of the text's longest whole front: of the longest
+/// prefix that is a list in which each item of the outermost list has its newline or `;` and each here-document its
+/// closing line with a newline.
+/// `NoMemory`: the text or its script couldn't be held.
+pub fn parse(alloc: Global, text: &[u8], nul: Nul) -> Result<Script, ShellFault>
+    // What is answered is the text's script.
+    ensures script { IfOk result (λ s. IsScript nul text.now s.items) }
+    // A text that has a script isn't refused, unless memory runs out.
+    ensures only { (cs : List Chain) → IsScript nul text.now cs → ReadsAs cs result }
+    ensures outside { IfErr result (IsOutside nul text.now) }
+{
+    match nul {
+        Nul::Keep => {
+            let items = script(alloc, text)?;
+            Ok(Script { items })
+        }
+        Nul::Drop => {
+            let seen = seen::without_nul(alloc, text)?;
+            match script(alloc, &seen) {
+                Ok(items) => Ok(Script { items }),
+                Err(ShellFault::NoMemory) => Err(ShellFault::NoMemory),
+                Err(ShellFault::Outside { at }) => Err(ShellFault::Outside {
+                    at: seen::past_nul(text, at as usize) as u64,
+                }),
+            }
+        }
+    }
+}

@@ -1,0 +1,137 @@
+//! Here-documents.
+ghost use Rattle.std.specs.Prelude.{◌≡◌, length, option_map, true};
+ghost use Rattle.ap_shparse.specs.Bytes as bytes;
+ghost use Rattle.ap_shparse.specs.Places as spec;
+ghost use Rattle.ap_shparse.specs.Reads.{Eats, Lends, Reads};
+
+use crate::class::Class;
+use crate::lines::Lines;
+use crate::pieces::{Substitution, Words};
+use crate::refusal::Refusal;
+use crate::text::Text;
+use sqlite_items::Items;
+use std::alloc::Global;
+
+const OPERATORS: &[u8] = b"&();<>|";
+
+const ARGS: &[u8] = b"\"$@\"";
+
+/// Takes `[` or `"$@"`, where it comes next as a whole word.
+pub(crate) fn eat_lone(text: &mut Text<'_>) -> bool
+    ensures { Eats (spec.lone text.old) result text.old text.new }
+{
+    text.eat_word(b"[") || text.eat_word(ARGS)
+}
+
+fn is_delimiter(word: &[u8]) -> bool
+    ensures { result ≡ spec.is_delimiter word.now }
+{
+    !word.is_empty() && !word.contains(&b'\n')
+}
+
+// Behind `<<`.
+#[tactic(auto, unfolding(crate::specs::Places::delimiter))]
+fn delimiter<'a>(text: &mut Text<'a>) -> Result<&'a [u8], Refusal>
+    ensures { Lends (spec.delimiter text.old) result text.new }
+{
+    text.expect(b'\'')?;
+    let word = text.run(Class::Quoted);
+    text.expect(b'\'')?;
+    if is_delimiter(word) && text.ends_word() {
+        return Ok(word);
+    }
+    Err(Refusal::Outside)
+}
+
+// The newline of a closing line, which may end with the text.
+fn closing(text: &mut Text<'_>) -> Result<(), Refusal>
+    ensures { Reads (spec.closing true text.old) result text.new }
+{
+    if text.is_empty() {
+        return Ok(());
+    }
+    text.expect(b'\n')
+}
+
+// The lines before the one that is the delimiter.
+#[tactic(auto, unfolding(crate::specs::Places::body, crate::specs::Places::body_from))]
+fn body(alloc: Global, text: &mut Text<'_>, delimiter: &[u8]) -> Result<Items<u8>, Refusal>
+    ensures { Reads (spec.body true delimiter.now text.old) result text.new }
+{
+    let turns = text.len();
+    let mut found = Items::new(alloc);
+    for _turn in 0..turns {
+        let line = text.run(Class::Comment);
+        if line == delimiter {
+            closing(text)?;
+            return Ok(found);
+        }
+        text.expect(b'\n')?;
+        found.append(Items::from_slice(alloc, line)?)?;
+        found.push(b'\n')?;
+    }
+    Err(Refusal::Outside)
+}
+
+impl<S: Substitution> Words<S> {
+    // An operator's byte, or a word.
+    #[tactic(auto, unfolding(crate::specs::Places::token))]
+    fn token(&self, text: &mut Text<'_>) -> Result<(), Refusal>
+        ensures { Reads (spec.token (S.reads self.now.sub) text.old) result text.new }
+    {
+        let Some(byte) = text.first() else {
+            return Err(Refusal::Outside);
+        };
+        if OPERATORS.contains(&byte) {
+            let _operator = text.next();
+            return Ok(());
+        }
+        if eat_lone(text) {
+            return Ok(());
+        }
+        let _word = self.pieces(text)?;
+        Ok(())
+    }
+
+    // Goes behind the next newline that isn't part of a word.
+    #[tactic(auto, unfolding(crate::specs::Places::line, crate::specs::Places::line_from))]
+    fn line(&self, text: &mut Text<'_>) -> Result<(), Refusal>
+        ensures { Reads (spec.line (S.reads self.now.sub) text.old) result text.new }
+    {
+        let turns = text.len();
+        for _turn in 0..turns {
+            text.gap();
+            if text.eat(b'\n') {
+                return Ok(());
+            }
+            self.token(text)?;
+        }
+        Err(Refusal::Outside)
+    }
+
+    /// The body of a here-document, behind its operator.
+    #[tactic(auto, unfolding(crate::specs::Places::here))]
+    pub(crate) fn here(&self, lines: &mut Lines<'_>) -> Result<Items<u8>, Refusal>
+        ensures { Reads (spec.here (S.reads self.now.sub) lines.old) result lines.new }
+    {
+        let delimiter = delimiter(&mut lines.text)?;
+        let mut bodies = Text::new(lines.text.as_slice());
+        self.to_bodies(&mut bodies, lines.bodies)?;
+        let found = body(self.alloc, &mut bodies, delimiter)?;
+        lines.bodies = Some(bodies.as_slice());
+        Ok(found)
+    }
+
+    // Goes behind the bodies of the line's other here-documents.
+    fn to_bodies<'a>(&self, text: &mut Text<'a>, bodies: Option<&'a [u8]>) -> Result<(), Refusal>
+        ensures { Reads (spec.or_line (S.reads self.now.sub) text.old (option_map (λ b. b.now) bodies.entry)) result text.new }
+    {
+        match bodies {
+            Some(bodies) => {
+                *text = Text::new(bodies);
+                Ok(())
+            }
+            None => self.line(text),
+        }
+    }
+}

@@ -1,0 +1,5 @@
+//! Tests of the shell grammar.
+#![tactic(auto)]
+
+#[cfg(test)]
+mod tests;

@@ -1,0 +1,121 @@
+// Which texts are scripts, and which script each is, as `show` writes it.
+mod show;
+
+use ap_shparse::{Nul, ShellFault, parse};
+use show::show;
+use std::alloc::{AllocError, Global};
+use std::test::Fail;
+
+/// A text, and the answer: its script, or `outside` and a place.
+type Row = (&'static [u8], Nul, &'static [u8]);
+
+const ROWS: [Row; 79] = [
+    // items and ends
+    (b"", Nul::Keep, b""),
+    (b"\n # c\n\t\n", Nul::Keep, b""),
+    (b":", Nul::Keep, b"<':'>;"),
+    (b": ; a|b", Nul::Keep, b"outside 4"),
+    (b"true\nfor x in a", Nul::Keep, b"outside 5"),
+    (b"# c\n a <<x", Nul::Keep, b"outside 5"),
+    (b":;;", Nul::Keep, b"outside 2"),
+    (b";", Nul::Keep, b"outside 0"),
+    (b"a # b\n#c", Nul::Keep, b"<'a'>;"),
+    (b"a#b", Nul::Keep, b"<'a#b'>;"),
+    // NUL
+    (b"\0\0)", Nul::Keep, b"outside 0"),
+    (b"\0\0)", Nul::Drop, b"outside 2"),
+    (b"tr\0ue", Nul::Keep, b"outside 0"),
+    (b"tr\0ue", Nul::Drop, b"<'true'>;"),
+    (b"a\0\n\0 )", Nul::Drop, b"outside 5"),
+    (b": # a\0b\n: 'a\0b'", Nul::Keep, b"<':'>;<':'><'a\0b'>;"),
+    (b": # a\0b\n: 'a\0b'", Nul::Drop, b"<':'>;<':'><'ab'>;"),
+    (b"x=${a:-\0}", Nul::Keep, b"outside 0"),
+    (b"x=\"${a:-\0}\"", Nul::Keep, b"x=<${a:-\0}> ;"),
+    (b": <<'E'\na\0E\n\0E\nE\n", Nul::Keep, b"<':'>0<<'a\0E\n\0E\n' ;"),
+    (b": <<'E'\na\0E\n\0E\nE\n", Nul::Drop, b"<':'>0<<'aE\n' ;<'E'>;"),
+    // AND-OR lists
+    (b"a ||", Nul::Keep, b"outside 0"),
+    (b"a || b && c", Nul::Keep, b"<'a'>||<'b'>&&<'c'>;"),
+    (b"false ||\n\n # c\n exit 4\n", Nul::Keep, b"<'false'>||<'exit'><'4'>;"),
+    (b"a & b", Nul::Keep, b"outside 0"),
+    (b"a\nb ||| c", Nul::Keep, b"outside 2"),
+    // if
+    (b"if true\n", Nul::Keep, b"outside 0"),
+    (b"if a; then b; fi", Nul::Keep, b"if <'a'>;then <'b'>;else fi;"),
+    (b"if a\nthen b; c\nelse d || e; fi && f\n", Nul::Keep, b"if <'a'>;then <'b'>;<'c'>;else <'d'>||<'e'>;fi&&<'f'>;"),
+    (b"if a; then fi", Nul::Keep, b"outside 0"),
+    (b"if a; then b fi", Nul::Keep, b"outside 0"),
+    (b"then", Nul::Keep, b"outside 0"),
+    (b"x=1 while", Nul::Keep, b"x=<'1'> <'while'>;"),
+    (b">f if", Nul::Keep, b"<'if'>1><'f'> ;"),
+    (b"in a\nelif", Nul::Keep, b"outside 5"),
+    (b"\"if\" a", Nul::Keep, b"<'if'><'a'>;"),
+    // words
+    (b"a'b c'\"d\\\"\\e\"f", Nul::Keep, b"<'ab cd\"\\ef'>;"),
+    (b": ''", Nul::Keep, b"<':'><>;"),
+    (b"[ a = b ]", Nul::Keep, b"<'['><'a'><'='><'b'><']'>;"),
+    (b"[ a != b ]", Nul::Keep, b"<'['><'a'><'!='><'b'><']'>;"),
+    (b": !a", Nul::Keep, b"outside 0"),
+    (b": [a", Nul::Keep, b"outside 0"),
+    (b": a[", Nul::Keep, b"outside 0"),
+    (b": ~", Nul::Keep, b"outside 0"),
+    (b": a~ a{b}", Nul::Keep, b"<':'><'a~'><'a{b}'>;"),
+    (b": ; 'a", Nul::Keep, b"outside 4"),
+    (b"echo $x", Nul::Keep, b"outside 0"),
+    (b": \"`\"", Nul::Keep, b"outside 0"),
+    (b"\"$@\" \"$@\"", Nul::Keep, b"<@><@>;"),
+    (b"a\"$@\"", Nul::Keep, b"outside 0"),
+    // expansions
+    (b": \"a$b${c}$0$$0${d:-e f}g\"", Nul::Keep, b"<':'><'a'$b$c$0$$'0'${d:-e f}'g'>;"),
+    (b"x=$00 y={ z=!a w=#b v=", Nul::Keep, b"x=<$0'0'> y=<'{'> z=<'!a'> w=<'#b'> v=<> ;"),
+    (b"x=\"$1\"\n", Nul::Keep, b"outside 0"),
+    (b"x=[", Nul::Keep, b"outside 0"),
+    (b"x=a~", Nul::Keep, b"outside 0"),
+    (b"x=\"$@\"", Nul::Keep, b"outside 0"),
+    (b"x=$(a \"$y\" >f)b", Nul::Keep, b"x=<$(<'a'><$y>1><'f'> )'b'> ;"),
+    (b"x=$(: # c\n)\n", Nul::Keep, b"outside 0"),
+    (b"x=\"$(a \"$(b)\")\"", Nul::Keep, b"outside 0"),
+    (b"x=$( exit )", Nul::Keep, b"outside 0"),
+    (b"x=$(\"exit\" 3)", Nul::Keep, b"x=<$(<'exit'><'3'>)> ;"),
+    // redirections
+    (b": >>f\n", Nul::Keep, b"outside 0"),
+    (b": 2>a <b 1<> c >&2 2>& 1", Nul::Keep, b"<':'>2><'a'> 0<<'b'> 1<><'c'> 1>&2 2>&1 ;"),
+    (b": 3>a", Nul::Keep, b"outside 0"),
+    (b": 10>a", Nul::Keep, b"outside 0"),
+    (b": >&1>f", Nul::Keep, b"outside 0"),
+    (b": >&12", Nul::Keep, b"outside 0"),
+    (b": >1>f", Nul::Keep, b"outside 0"),
+    // here-documents
+    (b": <<'E'\nEx\nE\nexit 7\n)", Nul::Keep, b"<':'>0<<'Ex\n' ;<'exit'><'7'>;"),
+    (b": <<'E' 'a\nb'\nx\nE\nexit 3\n", Nul::Keep, b"<':'><'a\nb'>0<<'x\n' ;<'exit'><'3'>;"),
+    (b": <<'E'\nx\nE", Nul::Keep, b"<':'>0<<'x\n' ;"),
+    (b": <<'E'x\nE\n", Nul::Keep, b"outside 0"),
+    (b":\n: <<'E'\nEx\n", Nul::Keep, b"outside 2"),
+    (b"a; b <<'E'; c <<'F' # d\nE\n1\nF\nd\n)", Nul::Keep, b"outside 32"),
+    (b"a; b <<'E'; c; )\nE\n", Nul::Keep, b"outside 3"),
+    // stopping commands
+    (b"exit 7 # c\n)", Nul::Keep, b"<'exit'><'7'>;"),
+    (b"exec \"$@\"\n|", Nul::Keep, b"outside 10"),
+    (b"x=1 exec \"$@\" a;)", Nul::Keep, b"x=<'1'> <'exec'><@><'a'>;"),
+    (b"\"exit\" 3\n)", Nul::Keep, b"outside 9"),
+];
+
+fn answer(alloc: Global, text: &[u8], nul: Nul) -> Result<Vec<u8>, AllocError> {
+    match parse(alloc, text, nul) {
+        Ok(script) => show(alloc, &script),
+        Err(ShellFault::Outside { at }) => {
+            let line = format!(in alloc; "outside {at}")?;
+            Vec::from_slice(alloc, line.as_bytes())
+        }
+        Err(ShellFault::NoMemory) => Vec::from_slice(alloc, b"no memory"),
+    }
+}
+
+#[test]
+fn texts_are_scripts(rt: HostRuntime) -> Result<(), Fail> {
+    for row in ROWS.as_slice() {
+        let found = answer(rt.alloc(), row.0, row.1)?;
+        assert!(rt; found.as_slice() == row.2, "{row:?}");
+    }
+    Ok(())
+}
