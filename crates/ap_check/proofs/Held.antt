@@ -20,7 +20,7 @@ use Rattle.ap_check.specs.Rules.{fault_of, size_rules, dynamic_rules, count_rule
 use Rattle.ap_check.specs.Inputs.{Taken, IsLoad, AreLoads, IsTls, Meets, can_start, is_permitted, span_of, bytes_of_loads, is_tls, is_note, is_stack, load_of, loads_of, first_of, machine_of, taken_of}
 
 -- a rule that holds, before others
-held : {F : Type 0} (test : Bool) (f : F) (rest : Rules F) → first_fault ((test, f) ∷ rest) ≡ None → (test ≡ true) × (first_fault rest ≡ None)
+pub held : {F : Type 0} (test : Bool) (f : F) (rest : Rules F) → first_fault ((test, f) ∷ rest) ≡ None → (test ≡ true) × (first_fault rest ≡ None)
 held true f rest h = (refl, h)
 held false f rest h = absurd (cc)
 

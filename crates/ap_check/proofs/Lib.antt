@@ -8,3 +8,4 @@ pub mod Prefixes
 pub mod Laws
 pub mod Ready
 pub mod ImportLemmas
+pub mod WindowsLemmas

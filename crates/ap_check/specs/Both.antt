@@ -1,12 +1,14 @@
 -- One or two inputs together.
-use Rattle.std.specs.Prelude.{◌≡◌, ℕ, ◌==◌, not, List, [], ◌∷◌, ◌++◌, Option, Some, None}
+use Rattle.std.specs.Prelude.{◌≡◌, ℕ, ◌==◌, not, if◌then◌else◌, List, [], ◌∷◌, ◌++◌, Option, Some, None}
 use Rattle.ap_fields.specs.FirstFault.{Rules, first_fault}
 use Rattle.ap_elf.specs.Fields.{header_of}
 use Rattle.ap_check.specs.declared.fault.Fault.{Fault}
 use Rattle.ap_check.specs.declared.options.Options.{Options}
-use Rattle.ap_elf.specs.Machines.{number_of}
+use Rattle.ap_elf.specs.declared.machine.Machine.TheVariants.{X64}
+use Rattle.ap_elf.specs.Machines.{number_of, is_machine}
 use Rattle.ap_check.specs.Rules.{fault_of, rules_of, first_fault_of}
-use Rattle.ap_check.specs.Inputs.{Taken, input_of}
+use Rattle.ap_check.specs.Inputs.{Taken, input_of, inputs_of}
+use Rattle.ap_check.specs.Windows.{windows_rules}
 
 -- rule 23: two inputs are for different machines, by the machines' numbers
 abbrev pub machines_rules : ℕ → ℕ → Rules Fault
@@ -17,15 +19,21 @@ abbrev pub taken_machines_rules : Taken → Option Taken → Rules Fault
 taken_machines_rules first None = []
 taken_machines_rules first (Some second) = machines_rules (number_of first.machine) (number_of second.machine)
 
--- the rules of the inputs that were taken and of the options together: rule 23, so far
-abbrev pub pair_rules : Options → Taken → Option Taken → Rules Fault
-pair_rules options first second = taken_machines_rules first second
+-- the bytes of the input for x86-64, of one or two inputs; those of either where there is none
+abbrev pub x64_bytes : Taken → List ℕ → Option (List ℕ) → List ℕ
+x64_bytes first a None = a
+x64_bytes first a (Some b) = if is_machine X64 first.machine then a else b
 
--- rules 1 to 23, by the bytes of the inputs: all of input 1 before those of input 2
+-- rules 23 to 28 of what was taken, by the bytes of the input for x86-64
+abbrev pub pair_rules : Options → Taken → Option Taken → List ℕ → Rules Fault
+pair_rules options first second bytes = taken_machines_rules first second ++ windows_rules options (inputs_of first second) bytes
+
+-- all rules, by the bytes of the inputs: those of input 1 alone, those of input 2 alone, and those of both together
 abbrev pub rules_of_both : Options → List ℕ → Option (List ℕ) → Rules Fault
-rules_of_both options first None = rules_of 1 first
+rules_of_both options first None = rules_of 1 first ++ windows_rules options (input_of 1 first ∷ []) first
 rules_of_both options first (Some second) =
-    rules_of 1 first ++ (rules_of 2 second ++ machines_rules (header_of first).e_machine (header_of second).e_machine)
+    rules_of 1 first ++ (rules_of 2 second ++ (machines_rules (header_of first).e_machine (header_of second).e_machine
+    ++ windows_rules options (input_of 1 first ∷ input_of 2 second ∷ []) (x64_bytes (input_of 1 first) first (Some second))))
 
 -- the fault of the first rule that one or two inputs break, if any
 abbrev pub first_fault_of_both : Options → List ℕ → Option (List ℕ) → Option Fault

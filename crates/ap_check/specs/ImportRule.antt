@@ -1,6 +1,6 @@
 -- Rule 28: the import table of an input (PE/COFF, "The .idata Section"), where its symbols name one. The walk over it is that of
 -- the format; the parts, their order and their limits are this project's own.
-use Rattle.std.specs.Prelude.{◌≡◌, ℕ, ◌+◌, ◌-◌, ◌^◌, ◌&&◌, nat_le, nat_lt, if◌then◌else◌, Bool, false, List, [], ◌∷◌, ◌++◌, Option, Some, None, Result, Ok, Err}
+use Rattle.std.specs.Prelude.{◌≡◌, ℕ, ◌+◌, ◌-◌, ◌^◌, ◌&&◌, nat_le, nat_lt, if◌then◌else◌, Bool, true, false, List, [], ◌∷◌, ◌++◌, Option, Some, None, Result, Ok, Err}
 use Rattle.ap_fields.specs.FirstFault.{Rules, first_fault}
 use Rattle.ap_fields.specs.Readings.{bytes_in}
 use Rattle.ap_files.specs.Files.{FileState, ForFile}
@@ -41,6 +41,11 @@ table_of s = table_by s.idata s.idata_end s.iat s.iat_end
 abbrev pub are_between : ℕ → ℕ → ℕ → List Load → Bool
 are_between least from to loads = nat_le (from + least) to && (nat_le (to - from) (2 ^ 20) && in_part from (to - from) loads)
 
+-- an import table and import address tables that stand
+pub record AreStanding (loads : List Load) (t : ImportTable) : Type 0 where
+  pub table : are_between 20 t.idata t.idata_end loads ≡ true
+  pub slots : are_between 1 t.iat t.iat_end loads ≡ true
+
 -- parts 1 and 2: the import table, which has room for an entry, and the import address tables
 abbrev pub range_rules : ℕ → List Load → ImportTable → Rules Fault
 range_rules n loads t =
@@ -79,7 +84,7 @@ ChecksCells old new rules (Err (Rule fault)) = (new ≡ old) × ((memory : Memor
 ChecksCells old new rules (Err ReadFault) = Unreadable old new
 
 -- A check of a file answers by its rules, where it is told, and the state is as before; or a read failed.
-abbrev pub ChecksTold : FileState → FileState → List ℕ → (List ℕ → Rules Fault) → Result (Unit {0}) CheckEnd → Type 0
+abbrev pub ChecksTold : {T : Type 0} → FileState → FileState → List ℕ → (List ℕ → Rules Fault) → Result T CheckEnd → Type 0
 ChecksTold old new name rules (Ok done) = (new ≡ old) × ForFile old.kept name (λ b. first_fault (rules b) ≡ None)
 ChecksTold old new name rules (Err (Rule fault)) = (new ≡ old) × ForFile old.kept name (λ b. first_fault (rules b) ≡ Some fault)
 ChecksTold old new name rules (Err ReadFault) = ReadFails old new

@@ -3,7 +3,7 @@ pub mod Inputs
 pub mod Rules
 pub mod Bare
 pub mod Ends
+pub mod ImportRule
 pub mod Windows
 pub mod Both
-pub mod ImportRule
 pub mod InputPlans

@@ -1,5 +1,5 @@
 -- What is asked of a linked file, and what of it is taken so far.
-use Rattle.std.specs.Prelude.{◌≡◌, ◌^◌, ◌<◌, ℕ, ◌==◌, not, Bool, false, bit_and}
+use Rattle.std.specs.Prelude.{◌≡◌, ◌^◌, ◌<◌, ℕ, ◌==◌, not, Bool, true, false, bit_and}
 use Rattle.ap_check.specs.declared.options.Systems.{Systems}
 use Rattle.ap_check.specs.declared.options.Options.{Options}
 
@@ -11,7 +11,7 @@ has_system systems bit = not (bit_and systems.0 bit == 0)
 abbrev pub for_windows : Options → Bool
 for_windows options = has_system options.systems 8
 
--- no system but Linux, FreeBSD and NetBSD, whose bits are 1, 2 and 4; and no magic for debuggers
+-- no macOS, whose bit is 16 and the highest; and no magic for debuggers where Windows was chosen, which has its own
 pub record AreTaken (o : Options) : Type 0 where
-  pub systems : o.systems.0 < 8
-  pub debug : o.debug ≡ false
+  pub systems : o.systems.0 < 16
+  pub magic : o.debug ≡ true → for_windows o ≡ false

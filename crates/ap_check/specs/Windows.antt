@@ -1,4 +1,4 @@
--- What a linked file for Windows asks of its input for x86-64 (PE/COFF): rules 24 to 27, and the first two parts of rule 28.
+-- What a linked file for Windows asks of its input for x86-64 (PE/COFF): rules 24 to 28.
 use Rattle.std.specs.Prelude.{◌≡◌, ℕ, ◌+◌, ◌-◌, ◌%◌, ◌^◌, ◌<◌, ◌≤◌, ◌==◌, ◌&&◌, ◌||◌, nat_le, nat_lt, if◌then◌else◌, Bool, true, false, List, [], ◌∷◌, ◌++◌, IfSome, IsSomeAnd, Option, Some, None, unwrap_or}
 use Rattle.std.specs.Option.{is_some}
 use Rattle.ap_fields.specs.Granules.{floor_of}
@@ -9,12 +9,12 @@ use Rattle.ap_elf.specs.Machines.{granule_of, is_machine}
 use Rattle.ap_check.specs.declared.fault.Fault.{Fault}
 use Rattle.ap_check.specs.declared.load.Load.{Load}
 use Rattle.ap_check.specs.declared.symbols.Symbols.{Symbols}
-use Rattle.ap_check.specs.declared.windows.Imports.{Imports}
-use Rattle.ap_check.specs.declared.windows.TheConstants.{BASE_GRANULE, MOST_IMAGE, MOST_DIRECTORY, IMPORT_ENTRY}
+use Rattle.ap_check.specs.declared.windows.TheConstants.{BASE_GRANULE, MOST_IMAGE}
 use Rattle.ap_check.specs.declared.options.Options.{Options}
 use Rattle.ap_check.specs.Options.{for_windows}
 use Rattle.ap_check.specs.Rules.{fault_of}
-use Rattle.ap_check.specs.Inputs.{Taken, in_part, can_start, first_start, last_stop}
+use Rattle.ap_check.specs.ImportRule.{table_of, AreStanding, import_rules}
+use Rattle.ap_check.specs.Inputs.{Taken, can_start, first_start, last_stop}
 
 -- the first input for x86-64
 abbrev pub x64_of : List Taken → Option Taken
@@ -37,7 +37,7 @@ loads_stop e = last_stop (granule_of e.machine) 0 e.loads
 abbrev pub base_of : Taken → ℕ
 base_of e = unwrap_or e.symbols.image_base (floor_of (loads_start e - PE_SPAN) BASE_GRANULE)
 
--- how many there are of some symbols
+-- one, where there is a value
 abbrev pub one_if_some : Option ℕ → ℕ
 one_if_some None = 0
 one_if_some (Some value) = 1
@@ -45,12 +45,6 @@ one_if_some (Some value) = 1
 -- how many of the four symbols of the import table there are
 abbrev pub import_count : Symbols → ℕ
 import_count s = one_if_some s.idata + (one_if_some s.idata_end + (one_if_some s.iat + one_if_some s.iat_end))
-
--- the import directory and the import address tables, where all four symbols are there
-abbrev pub imports_of : Symbols → Option Imports
-imports_of s = if import_count s == 4
-    then Some (record { table = unwrap_or s.idata 0; table_end = unwrap_or s.idata_end 0; slots = unwrap_or s.iat 0; slots_end = unwrap_or s.iat_end 0 })
-    else None
 
 -- rule 25: the program starts in a load that may be executed
 abbrev pub pe_entry_rules : Taken → Rules Fault
@@ -73,27 +67,18 @@ abbrev pub import_symbols_rules : Taken → Rules Fault
 import_symbols_rules e =
     (import_count e.symbols == 0 || (import_count e.symbols == 4 && is_some e.symbols.image_base), fault_of e.number 27 0 (import_count e.symbols)) ∷ []
 
--- whether the addresses from one to another are some, not too many, and lie in the file part of one load
-abbrev pub range_stands : ℕ → ℕ → ℕ → List Load → Bool
-range_stands least from to loads =
-    nat_le (from + least) to && (nat_le to (from + MOST_DIRECTORY) && in_part from (to - from) loads)
-
--- rule 28, parts 1 and 2: the import directory has room for its closing entry, the import address tables aren't empty, and both stand
-abbrev pub ranges_rules : Taken → Option Imports → Rules Fault
-ranges_rules e None = []
-ranges_rules e (Some i) =
-    (range_stands IMPORT_ENTRY i.table i.table_end e.loads, fault_of e.number 28 1 i.table)
-    ∷ (range_stands 1 i.slots i.slots_end e.loads, fault_of e.number 28 2 i.slots)
-    ∷ []
-
--- rules 25 to 27, and the first two parts of rule 28
+-- rules 25 to 27
 unfoldable pub image_rules : Taken → Rules Fault
-image_rules e = pe_entry_rules e ++ (base_rules e ++ (import_symbols_rules e ++ ranges_rules e (imports_of e.symbols)))
+image_rules e = pe_entry_rules e ++ (base_rules e ++ import_symbols_rules e)
 
--- an import directory and import address tables that stand
-pub record AreStanding (loads : List Load) (i : Imports) : Type 0 where
-  pub table : range_stands IMPORT_ENTRY i.table i.table_end loads ≡ true
-  pub slots : range_stands 1 i.slots i.slots_end loads ≡ true
+-- rules 24 to 28 of the input for x86-64, if there is one, by its file's bytes
+abbrev pub x64_rules : Option Taken → List ℕ → Rules Fault
+x64_rules None bytes = (false, fault_of 0 24 0 0) ∷ []
+x64_rules (Some e) bytes = image_rules e ++ import_rules e (base_of e) bytes
+
+-- rules 24 to 28, where Windows was chosen, by the bytes of the file of the input for x86-64
+unfoldable pub windows_rules : Options → List Taken → List ℕ → Rules Fault
+windows_rules options inputs bytes = if for_windows options then x64_rules (x64_of inputs) bytes else []
 
 -- what an input for x86-64 meets that is linked for Windows
 pub record MeetsWindows (e : Taken) : Type 0 where
@@ -103,7 +88,7 @@ pub record MeetsWindows (e : Taken) : Type 0 where
   pub least : BASE_GRANULE ≤ base_of e
   pub room : base_of e + PE_SPAN ≤ loads_start e
   pub span : loads_stop e ≤ base_of e + MOST_IMAGE
-  pub imports : IfSome (imports_of e.symbols) (AreStanding e.loads)
+  pub imports : IfSome (table_of e.symbols) (AreStanding e.loads)
 
 -- it meets that, and has this base
 pub record IsReady (at : ℕ) (e : Taken) : Type 0 where

@@ -1,10 +1,10 @@
 // Rule 28: the import table of an input.
-ghost use Rattle.std.specs.Prelude.{◌≡◌, ◌≤◌, ◌^◌, ℕ, length, OnOk};
+ghost use Rattle.std.specs.Prelude.{◌≡◌, ◌≤◌, ◌^◌, ℕ, length, OnOk, IfSome};
 ghost use Rattle.ap_image.specs.PlanCells.{shown_by};
 ghost use Rattle.ap_files.specs.Reads.{HasSize};
 ghost use Rattle.ap_check.specs.Rules.{Checks};
 ghost use Rattle.ap_check.specs.ImportRule as spec;
-ghost use Rattle.ap_check.specs.ImportRule.{import_rules, range_rules, table_rules, are_between, memory_of, ChecksCells, ChecksTold};
+ghost use Rattle.ap_check.specs.ImportRule.{import_rules, range_rules, table_rules, are_between, AreStanding, memory_of, ChecksCells, ChecksTold};
 
 use crate::end::CheckEnd;
 use crate::fault::{Fault, broken};
@@ -13,7 +13,7 @@ use crate::input_plan::plan_of;
 use crate::load::Load;
 use crate::part::in_part;
 use crate::symbols::Symbols;
-use ap_files::{Files, SliceFiles};
+use ap_files::Files;
 use ap_image::{Cells, Ending, FileCells, Walk, WalkCause};
 
 /// Where the symbols of an input name its import table and its import address tables.
@@ -25,7 +25,7 @@ pub struct ImportTable {
     pub iat_end: u64,
 }
 
-/// Rule 28 of an input whose bytes these are, for an image base: where its symbols name an import table, that table stands. The
+/// Rule 28 of an input of the file of this name, for an image base: where its symbols name an import table, that table stands. The
 /// item of the fault is the number of the part that fails, the first of these:
 ///
 /// - 1 and 2: the import table, with room for an entry, and the import address tables have at most 2^20 bytes, which lie in the
@@ -36,22 +36,8 @@ pub struct ImportTable {
 /// - 6: it meets at most 4096 items. The value is the address of item 4097.
 ///
 /// Of parts 3 to 6 the one that the walk meets first is the fault.
-#[tactic(auto, using(ap_files::proofs::SliceLemmas::slice_steps))]
-pub fn check_imports(input: &Input, base: u64, bytes: &[u8]) -> Result<(), Fault>
-    requires base { base ≤ 2 ^ 48 }
-    requires size { input.now.size ≡ length bytes.now }
-    ensures { Checks result (import_rules input.now base bytes.now) }
-{
-    let mut files = SliceFiles { bytes };
-    match check_imports_in(&mut files, "", input, base) {
-        Ok(()) => Ok(()),
-        Err(CheckEnd::Rule(fault)) => Err(fault),
-        Err(CheckEnd::ReadFault) => unreachable!(),
-    }
-}
-
-/// Rule 28 of an input of the file of this name, as [`check_imports`] says. Of the file the bytes that the walk meets are read,
-/// one by one.
+///
+/// Of the file the bytes that the walk meets are read, one by one.
 ///
 /// `ReadFault`: a read failed.
 pub fn check_imports_in<F: Files>(
@@ -62,8 +48,10 @@ pub fn check_imports_in<F: Files>(
 ) -> Result<(), CheckEnd>
     requires base { base ≤ 2 ^ 48 }
     requires size { HasSize (F.state files.old).kept name.now input.now.size }
-    ensures { ChecksTold (F.state files.old) (F.state files.new) name.now (import_rules input.now base)
-        result }
+    ensures rules { ChecksTold (F.state files.old) (F.state files.new) name.now
+        (import_rules input.now base) result }
+    ensures standing { OnOk result
+        (IfSome (spec.table_of input.now.symbols) (AreStanding input.now.loads)) }
 {
     let plan = plan_of(input);
     let mut cells = FileCells {
@@ -86,6 +74,8 @@ fn check_cells<F: Files>(
     ensures same_reference { cells.new.files.ghost_name ≡ cells.old.files.ghost_name }
     ensures checks { ChecksTold (F.state cells.old.files.now) (F.state cells.new.files.now)
         cells.old.name.now (import_rules input.now base) result }
+    ensures standing { OnOk result
+        (IfSome (spec.table_of input.now.symbols) (AreStanding input.now.loads)) }
 {
     check_table(cells, input, base)
 }
@@ -93,9 +83,11 @@ fn check_cells<F: Files>(
 // Rule 28 over the bytes of an input in memory.
 fn check_table<C: Cells>(cells: &mut C, input: &Input, base: u64) -> Result<(), CheckEnd>
     requires { base ≤ 2 ^ 48 }
-    ensures { ChecksCells (C.state cells.old) (C.state cells.new)
+    ensures rules { ChecksCells (C.state cells.old) (C.state cells.new)
         (λ memory. table_rules input.now.number input.now.loads base memory (spec.table_of input.now.symbols))
         result }
+    ensures standing { OnOk result
+        (IfSome (spec.table_of input.now.symbols) (AreStanding input.now.loads)) }
 {
     let Some(table) = table_of(&input.symbols) else {
         return Ok(());
@@ -109,6 +101,7 @@ fn check_ranges(input: &Input, table: &ImportTable) -> Result<(), Fault>
     ensures rules { Checks result (range_rules input.now.number input.now.loads table.now) }
     ensures start { OnOk result (table.now.idata ≤ 2 ^ 47) }
     ensures end { OnOk result (table.now.idata_end ≤ 2 ^ 47) }
+    ensures standing { OnOk result (AreStanding input.now.loads table.now) }
 {
     let loads = input.loads.as_slice();
     if !is_between(20, table.idata, table.idata_end, loads) {
@@ -167,8 +160,8 @@ fn part(cause: WalkCause) -> u16
     }
 }
 
-// Where the symbols name the tables, if they name all.
-fn table_of(symbols: &Symbols) -> Option<ImportTable>
+/// Where the symbols name the tables, if they name all four ends.
+pub fn table_of(symbols: &Symbols) -> Option<ImportTable>
     ensures { result ≡ spec.table_of symbols.now }
 {
     Some(ImportTable {

@@ -1,5 +1,5 @@
 // What is to be linked.
-ghost use Rattle.std.specs.Prelude.{◌≡◌, ◌≢◌, true, IfSome, IsSomeAnd, option_copied};
+ghost use Rattle.std.specs.Prelude.{◌≡◌, ◌≢◌, ◌≤◌, ◌^◌, true, IfSome, IsSomeAnd, option_copied};
 ghost use Rattle.std.proofs.Props.{props};
 ghost use Rattle.ap_check.specs.Options.{AreTaken, for_windows};
 ghost use Rattle.ap_check.specs.Inputs.{inputs_of};
@@ -19,6 +19,7 @@ pub struct Job<'a> {
     pub options: Options,
     /// The image base on Windows, or 0 without Windows.
     pub base: u64,
+    pub ghost base_top: { base ≤ 2 ^ 48 },
     pub ghost taken: { AreTaken options } by { Prim.hlevel props },
     pub ghost first_number: { first.now.number ≡ 1 },
     pub ghost second_number: { IfSome (option_copied second) (λ i. i.number ≡ 2) } by { Prim.hlevel props },
@@ -32,13 +33,21 @@ impl<'a> Job<'a> {
         ensures { option_copied result
             ≡ x64_of (inputs_of self.now.first.now (option_copied self.now.second)) }
     {
-        if is_x64(self.first) {
-            return Some(self.first);
-        }
-        match self.second {
-            Some(second) if is_x64(second) => Some(second),
-            _ => None,
-        }
+        x64_input(self.first, self.second)
+    }
+}
+
+/// The first of one or two inputs that is for x86-64.
+pub fn x64_input<'a>(first: &'a Input, second: Option<&'a Input>) -> Option<&'a Input>
+    ensures input { option_copied result ≡ x64_of (inputs_of first.now (option_copied second.entry)) }
+    ensures machine { IfSome (option_copied result) (λ e. e.machine ≡ X64) }
+{
+    if is_x64(first) {
+        return Some(first);
+    }
+    match second {
+        Some(second) if is_x64(second) => Some(second),
+        _ => None,
     }
 }
 

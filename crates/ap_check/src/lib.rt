@@ -15,7 +15,7 @@ mod span; // rules 19 and 20: all loads together
 mod tls; // rule 21: the template of thread-local storage
 mod named; // the symbols that the linker looks for
 mod windows; // rules 24 to 28: what Windows asks
-mod both; // rule 23: two inputs together
+mod both; // rules 23 to 28: all inputs together
 mod imports; // rule 28: the import table
 mod input_plan; // an input in memory
 mod input; // what is taken of an input
@@ -28,12 +28,12 @@ mod job; // what is to be linked
 mod options; // what is asked of the linked file
 
 pub use ap_elf::Machine;
-pub use both::check_all;
+pub use both::{check_all, check_all_in};
 pub use check::check_input;
 pub use end::CheckEnd;
 pub use fault::Fault;
 pub use file::check_input_in;
-pub use imports::{ImportTable, check_imports, check_imports_in};
+pub use imports::{ImportTable, table_of};
 pub use input::Input;
 pub use input_plan::{bytes_are_cells, plan_of};
 pub use job::Job;
@@ -41,4 +41,4 @@ pub use load::{Load, taken_loads};
 pub use options::{Options, Systems};
 pub use size::check_size;
 pub use symbols::Symbols;
-pub use windows::{BASE_GRANULE, Imports, image_base, import_ranges};
+pub use windows::image_base;

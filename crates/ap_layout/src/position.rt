@@ -1,6 +1,7 @@
 // The positions of a linked file's parts.
-ghost use Rattle.std.specs.Prelude.{◌≡◌, None, Some, option_copied};
+ghost use Rattle.std.specs.Prelude.{◌≡◌, ◌+◌, ◌≤◌, None, Some, option_copied};
 ghost use Rattle.ap_fields.specs.declared.sizes.TheConstants.{BLOCK};
+ghost use Rattle.ap_layout.specs.declared.sizes.TheConstants.{TABLES, MOST_HEADERS};
 ghost use Rattle.ap_layout.specs.Apart.{AllApart, Ascend, FittingIsApart, first_areas};
 ghost use Rattle.ap_check.specs.Inputs.{inputs_of};
 ghost use Rattle.ap_check.specs.Windows.{AreReady};
@@ -41,6 +42,7 @@ pub fn areas_are_apart()
 // The positions of the first input alone, whose program header table stands at `start`.
 fn place_one(job: &Job<'_>, start: u32) -> Layout
     requires start { start ≡ tables_start job.now.options (inputs_of job.now.first.now None) }
+    requires small { start ≤ TABLES + MOST_HEADERS }
     requires ready { AreReady job.now.options (inputs_of job.now.first.now None) }
     ensures positions { result ≡ positions_of job.now.options job.now.first.now None }
     ensures fits { Fits job.now.options (inputs_of job.now.first.now None) result }
@@ -62,6 +64,7 @@ fn place_one(job: &Job<'_>, start: u32) -> Layout
 fn place_two(job: &Job<'_>, second: &Input, start: u32) -> Layout
     requires start { start
         ≡ tables_start job.now.options (inputs_of job.now.first.now (Some second.now)) }
+    requires small { start ≤ TABLES + MOST_HEADERS }
     requires ready { AreReady job.now.options (inputs_of job.now.first.now (Some second.now)) }
     ensures positions { result ≡ positions_of job.now.options job.now.first.now (Some second.now) }
     ensures fits { Fits job.now.options (inputs_of job.now.first.now (Some second.now)) result }

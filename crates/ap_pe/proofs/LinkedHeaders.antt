@@ -14,11 +14,12 @@ use Rattle.ap_elf.specs.declared.machine.Machine.TheVariants.{X64}
 use Rattle.ap_elf.specs.Machines.{granule_of, is_machine}
 use Rattle.ap_elf.proofs.Machines.{is_machine-same}
 use Rattle.ap_check.specs.declared.load.Load.{Load}
-use Rattle.ap_check.specs.declared.windows.Imports.{Imports}
+use Rattle.ap_check.specs.declared.imports.ImportTable.{ImportTable}
 use Rattle.ap_check.specs.declared.options.Options.{Options}
 use Rattle.ap_check.specs.Options.{for_windows}
 use Rattle.ap_check.specs.Inputs.{Taken, Meets, AreLoads, first_start, last_stop}
-use Rattle.ap_check.specs.Windows.{x64_of, base_of, imports_of, AreStanding, MeetsWindows}
+use Rattle.ap_check.specs.ImportRule.{table_of, are_between, AreStanding}
+use Rattle.ap_check.specs.Windows.{x64_of, base_of, MeetsWindows}
 use Rattle.ap_layout.specs.declared.layout.Area.{Area}
 use Rattle.ap_layout.specs.Areas.{ServeAll, new_areas}
 use Rattle.ap_layout.specs.Headers.{section_count, headers_length, pe_length}
@@ -142,19 +143,19 @@ reserve-even p even = elim (cases_Bool (p.stack == 0)) [
   | inr some ↦ rw some even
 ]
 
-range-short : (from to least : ℕ) (rest : Bool) → (nat_le (from + least) to && (nat_le to (from + 1048576) && rest)) ≡ true → to - from < 256 ^ 3
+range-short : (from to least : ℕ) (rest : Bool) → (nat_le (from + least) to && (nat_le (to - from) 1048576 && rest)) ≡ true → to - from < 256 ^ 3
 range-short from to least rest h =
-    let first = and_parts (nat_le (from + least) to) (nat_le to (from + 1048576) && rest) h in
-    let most = leb-true to (from + 1048576) (and_parts (nat_le to (from + 1048576)) rest first.1).0 in
+    let first = and_parts (nat_le (from + least) to) (nat_le (to - from) 1048576 && rest) h in
+    let most = leb-true (to - from) 1048576 (and_parts (nat_le (to - from) 1048576) rest first.1).0 in
     omega arith
 
-table-short : (base : ℕ) (loads : List Load) (o : Option Imports) → IfSome o (AreStanding loads) → (table_directory base o).length < 256 ^ 3
+table-short : (base : ℕ) (loads : List Load) (o : Option ImportTable) → IfSome o (AreStanding loads) → (table_directory base o).length < 256 ^ 3
 table-short base loads None h = omega arith
-table-short base loads (Some i) h = range-short i.table i.table_end 20 _ h.table
+table-short base loads (Some t) h = range-short t.idata t.idata_end 20 _ h.table
 
-slots-short : (base : ℕ) (loads : List Load) (o : Option Imports) → IfSome o (AreStanding loads) → (slots_directory base o).length < 256 ^ 3
+slots-short : (base : ℕ) (loads : List Load) (o : Option ImportTable) → IfSome o (AreStanding loads) → (slots_directory base o).length < 256 ^ 3
 slots-short base loads None h = omega arith
-slots-short base loads (Some i) h = range-short i.slots i.slots_end 1 _ h.slots
+slots-short base loads (Some t) h = range-short t.iat t.iat_end 1 _ h.slots
 
 -- loads in order begin behind the headers
 pub from-headers : (size low : ℕ) (loads : List Load) → 0 < length loads → AreLoads 4096 size 0 loads → low ≤ first_start 4096 loads → AreLoads 4096 size low loads
@@ -187,8 +188,8 @@ text-sparse e news areas ys meets windows served rest =
       first = first-even named each;
       stop = omega arith;
       stack = reserve-even (program_of e) (stack-even e.stack);
-      imports = table-short base loads (imports_of e.symbols) windows.imports;
-      slots = slots-short base loads (imports_of e.symbols) windows.imports;
+      imports = table-short base loads (table_of e.symbols) windows.imports;
+      slots = slots-short base loads (table_of e.symbols) windows.imports;
     })
     each rest
 

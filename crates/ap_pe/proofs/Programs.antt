@@ -7,9 +7,10 @@ use Rattle.ap_fields.specs.Granules.{floor_of, ceil_of}
 use Rattle.ap_elf.specs.declared.machine.Machine.{Machine}
 use Rattle.ap_elf.specs.Machines.{granule_of}
 use Rattle.ap_check.specs.declared.load.Load.{Load}
-use Rattle.ap_check.specs.declared.windows.Imports.{Imports}
+use Rattle.ap_check.specs.declared.imports.ImportTable.{ImportTable}
 use Rattle.ap_check.specs.Inputs.{Taken, Meets, IsLoad, AreLoads, has_part, in_part, has_address, is_executable, can_start, first_start, last_stop}
-use Rattle.ap_check.specs.Windows.{base_of, pe_entry_of, loads_start, loads_stop, imports_of, range_stands, AreStanding, MeetsWindows, IsReady}
+use Rattle.ap_check.specs.ImportRule.{table_of, are_between, AreStanding}
+use Rattle.ap_check.specs.Windows.{base_of, pe_entry_of, loads_start, loads_stop, MeetsWindows, IsReady}
 use Rattle.ap_layout.specs.declared.layout.Area.{Area}
 use Rattle.ap_layout.specs.declared.sizes.TheConstants.{FILE_TOP}
 use Rattle.ap_pe.specs.declared.program.Program.{Program}
@@ -141,10 +142,10 @@ program-is e base p loads areas is loads_are meets ready same places =
     subst (λ x. IsProgram x loads areas) (sym is) (subst (λ x. IsProgram (program_of e) x areas) (sym loads_are) (is-program e areas meets ready.meets same places))
 
 -- a range of addresses that stands is one of the image
-range-is : (e : Taken) (least from to : ℕ) → IsBehind e → range_stands least from to e.loads ≡ true → IsRange (base_of e) from to
+range-is : (e : Taken) (least from to : ℕ) → IsBehind e → are_between least from to e.loads ≡ true → IsRange (base_of e) from to
 range-is e least from to behind stands =
-    let a = and_parts (nat_le (from + least) to) (nat_le to (from + 1048576) && in_part from (to - from) e.loads) stands in
-    let b = and_parts (nat_le to (from + 1048576)) (in_part from (to - from) e.loads) a.1 in
+    let a = and_parts (nat_le (from + least) to) (nat_le (to - from) 1048576 && in_part from (to - from) e.loads) stands in
+    let b = and_parts (nat_le (to - from) 1048576) (in_part from (to - from) e.loads) a.1 in
     let order = leb-true (from + least) to a.0 in
     let within = in-within e.size (base_of e + 8192) from (to - from) e.loads behind.loads b.1 in
     let low = within.0 in
@@ -153,12 +154,12 @@ range-is e least from to behind stands =
     record { low = omega arith; order = omega arith; top = omega arith }
 
 -- so are those of its directories
-ranges-if : (e : Taken) (o : Option Imports) → IsBehind e → IfSome o (AreStanding e.loads) → IfSome o (λ i. IsRange (base_of e) i.table i.table_end) × IfSome o (λ i. IsRange (base_of e) i.slots i.slots_end)
+ranges-if : (e : Taken) (o : Option ImportTable) → IsBehind e → IfSome o (AreStanding e.loads) → IfSome o (λ t. IsRange (base_of e) t.idata t.idata_end) × IfSome o (λ t. IsRange (base_of e) t.iat t.iat_end)
 ranges-if e None behind h = (tt, tt)
-ranges-if e (Some i) behind h = (range-is e 20 i.table i.table_end behind h.table, range-is e 1 i.slots i.slots_end behind h.slots)
+ranges-if e (Some t) behind h = (range-is e 20 t.idata t.idata_end behind h.table, range-is e 1 t.iat t.iat_end behind h.slots)
 
-pub ranges-are : (e : Taken) (base : ℕ) (o : Option Imports) → o ≡ imports_of e.symbols → IsReady base e → Meets e
-    → IfSome o (λ i. IsRange base i.table i.table_end) × IfSome o (λ i. IsRange base i.slots i.slots_end)
+pub ranges-are : (e : Taken) (base : ℕ) (o : Option ImportTable) → o ≡ table_of e.symbols → IsReady base e → Meets e
+    → IfSome o (λ t. IsRange base t.idata t.idata_end) × IfSome o (λ t. IsRange base t.iat t.iat_end)
 ranges-are e base o is ready meets =
-    let Ranges : ℕ → Option Imports → Type 0 = λ b x. IfSome x (λ i. IsRange b i.table i.table_end) × IfSome x (λ i. IsRange b i.slots i.slots_end) in
-    subst (λ x. Ranges base x) (sym is) (subst (λ b. Ranges b (imports_of e.symbols)) (sym ready.base) (ranges-if e (imports_of e.symbols) (is-behind e meets ready.meets) ready.meets.imports))
+    let Ranges : ℕ → Option ImportTable → Type 0 = λ b x. IfSome x (λ t. IsRange b t.idata t.idata_end) × IfSome x (λ t. IsRange b t.iat t.iat_end) in
+    subst (λ x. Ranges base x) (sym is) (subst (λ b. Ranges b (table_of e.symbols)) (sym ready.base) (ranges-if e (table_of e.symbols) (is-behind e meets ready.meets) ready.meets.imports))

@@ -5,11 +5,12 @@ use Rattle.ap_fields.specs.Bytes.{zeros}
 use Rattle.ap_claims.specs.Lists.{Claim}
 use Rattle.ap_elf.specs.declared.machine.Machine.TheVariants.{X64}
 use Rattle.ap_check.specs.declared.options.Options.{Options}
-use Rattle.ap_check.specs.declared.windows.Imports.{Imports}
+use Rattle.ap_check.specs.declared.imports.ImportTable.{ImportTable}
 use Rattle.ap_check.specs.declared.windows.TheConstants.{MOST_IMAGE}
 use Rattle.ap_check.specs.Options.{for_windows}
 use Rattle.ap_check.specs.Inputs.{Taken}
-use Rattle.ap_check.specs.Windows.{base_of, pe_entry_of, imports_of}
+use Rattle.ap_check.specs.ImportRule.{table_of}
+use Rattle.ap_check.specs.Windows.{base_of, pe_entry_of}
 use Rattle.ap_layout.specs.Positions.{Positions, PlacedInput, placed_inputs}
 use Rattle.ap_layout.specs.Jobs.{placed_for}
 use Rattle.ap_layout.specs.Stacks.{stack_size}
@@ -29,13 +30,13 @@ pub record IsRange (base from to : ℕ) : Type 0 where
   pub top : to ≤ base + MOST_IMAGE
 
 -- the directories of the import table and of the import address tables
-abbrev pub table_directory : ℕ → Option Imports → Directory
+abbrev pub table_directory : ℕ → Option ImportTable → Directory
 table_directory base None = record { rva = 0; length = 0 }
-table_directory base (Some i) = directory_of base i.table i.table_end
+table_directory base (Some t) = directory_of base t.idata t.idata_end
 
-abbrev pub slots_directory : ℕ → Option Imports → Directory
+abbrev pub slots_directory : ℕ → Option ImportTable → Directory
 slots_directory base None = record { rva = 0; length = 0 }
-slots_directory base (Some i) = directory_of base i.slots i.slots_end
+slots_directory base (Some t) = directory_of base t.iat t.iat_end
 
 -- what the headers say of an input beside its loads
 abbrev pub program_of : Taken → Program
@@ -43,8 +44,8 @@ program_of e = record {
   base = base_of e;
   entry = pe_entry_of e;
   stack = stack_size e.stack;
-  imports = table_directory (base_of e) (imports_of e.symbols);
-  slots = slots_directory (base_of e) (imports_of e.symbols);
+  imports = table_directory (base_of e) (table_of e.symbols);
+  slots = slots_directory (base_of e) (table_of e.symbols);
 }
 
 abbrev pub headers_of : Option PlacedInput → List ℕ

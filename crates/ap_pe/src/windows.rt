@@ -3,7 +3,7 @@ ghost use Rattle.std.specs.Prelude.{◌≡◌, ◌≤◌, ◌<◌, ◌+◌, ◌^
 ghost use Rattle.std.specs.Option.{option_map};
 ghost use Rattle.ap_claims.specs.Lists.{Makes};
 ghost use Rattle.ap_check.specs.Inputs.{Meets};
-ghost use Rattle.ap_check.specs.Windows.{IsReady, imports_of};
+ghost use Rattle.ap_check.specs.Windows.{IsReady};
 ghost use Rattle.ap_layout.specs.declared.sizes.TheConstants.{FILE_TOP};
 ghost use Rattle.ap_layout.specs.Jobs.{job_inputs, placed_of, IsKnown};
 ghost use Rattle.ap_layout.specs.Positions.{Fits};
@@ -16,7 +16,7 @@ use crate::constants::MOST_HEADERS;
 use crate::headers::pe_headers;
 use crate::program::{Directory, Program};
 use crate::write::write_headers;
-use ap_check::{Imports, Input, Job, Machine, Systems, import_ranges};
+use ap_check::{ImportTable, Input, Job, Machine, Systems, table_of};
 use ap_claims::{Block, Clash};
 use ap_layout::{Area, Layout, Placement, placed_for, stack_size};
 use arrayvec::ArrayVec;
@@ -94,7 +94,7 @@ fn program(e: &Input, base: u64) -> Program
     ensures program { result ≡ program_of e.now }
     ensures meets { Meets e.now }
 {
-    let imports = import_ranges(&e.symbols);
+    let imports = table_of(&e.symbols);
     Program {
         base,
         entry: e.symbols.pe_entry.unwrap_or(0),
@@ -105,24 +105,24 @@ fn program(e: &Input, base: u64) -> Program
 }
 
 // The directory of the import table.
-fn table(base: u64, imports: &Option<Imports>) -> Directory
-    requires { IfSome imports.now (λ i. spec.IsRange base i.table i.table_end) }
+fn table(base: u64, imports: &Option<ImportTable>) -> Directory
+    requires { IfSome imports.now (λ t. spec.IsRange base t.idata t.idata_end) }
     ensures { result ≡ table_directory base imports.now }
 {
     match imports {
         None => Directory::default(),
-        Some(i) => directory(base, i.table, i.table_end),
+        Some(t) => directory(base, t.idata, t.idata_end),
     }
 }
 
 // The directory of the import address tables.
-fn slots(base: u64, imports: &Option<Imports>) -> Directory
-    requires { IfSome imports.now (λ i. spec.IsRange base i.slots i.slots_end) }
+fn slots(base: u64, imports: &Option<ImportTable>) -> Directory
+    requires { IfSome imports.now (λ t. spec.IsRange base t.iat t.iat_end) }
     ensures { result ≡ slots_directory base imports.now }
 {
     match imports {
         None => Directory::default(),
-        Some(i) => directory(base, i.slots, i.slots_end),
+        Some(t) => directory(base, t.iat, t.iat_end),
     }
 }
 
