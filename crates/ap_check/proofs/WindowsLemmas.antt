@@ -1,6 +1,6 @@
 -- What stands where the rules for Windows hold, and checks of rules that need a file's bytes behind others.
 use Rattle.std.proofs.Common.{◌≡◌, ℕ, ◌+◌, ◌%◌, ◌≤◌, ◌==◌, ◌&&◌, nat_le, Bool, true, false, cond, List, [], ◌∷◌, ◌++◌, length, Option, Some, None, Result, Ok, Err, refl, sym, ap, ◌∙◌, subst, arith}
-use Rattle.std.specs.Prelude.{◌^◌, IfSome}
+use Rattle.std.specs.Prelude.{◌^◌, IfSome, IsSomeAnd}
 use Rattle.std.specs.Option.{is_some}
 use Rattle.std.proofs.lemmas.Bool.{and_parts, leb-true}
 use Rattle.std.proofs.lemmas.Bool.Decides.{nat_tests}
@@ -12,7 +12,8 @@ use Rattle.ap_files.specs.Reads.{HasSize}
 use Rattle.ap_files.specs.Slices.{slice_state}
 use Rattle.ap_files.proofs.SliceLemmas.{slice_sized}
 use Rattle.ap_elf.specs.declared.machine.Machine.TheVariants.{X64}
-use Rattle.ap_elf.specs.Machines.{granule_of}
+use Rattle.ap_elf.specs.Machines.{granule_of, is_machine}
+use Rattle.ap_elf.proofs.Machines.{is_machine-same}
 use Rattle.ap_check.specs.declared.fault.Fault.{Fault}
 use Rattle.ap_check.specs.declared.load.Load.{Load}
 use Rattle.ap_check.specs.declared.options.Options.{Options}
@@ -21,8 +22,11 @@ use Rattle.ap_check.specs.declared.end.CheckEnd.TheVariants.{Rule, ReadFault}
 use Rattle.ap_check.specs.Options.{for_windows}
 use Rattle.ap_check.specs.Rules.{fault_of}
 use Rattle.ap_check.specs.Inputs.{Taken, Meets, AreLoads, can_start, first_start}
-use Rattle.ap_check.specs.ImportRule.{table_of, AreStanding, ChecksTold}
-use Rattle.ap_check.specs.Windows.{x64_of, pe_entry_of, loads_start, base_of, base_holds, has_room, pe_entry_rules, base_rules, import_symbols_rules, image_rules, x64_rules, windows_rules, MeetsWindows, IsReady}
+use Rattle.ap_fields.specs.Readings.{bytes_in}
+use Rattle.ap_image.specs.Cells.{Memory}
+use Rattle.ap_check.specs.declared.imports.ImportTable.{ImportTable}
+use Rattle.ap_check.specs.ImportRule.{memory_of, table_of, are_between, AreStanding, range_rules, walked_rules, table_rules, import_rules, ChecksTold}
+use Rattle.ap_check.specs.Windows.{x64_of, pe_entry_of, loads_start, base_of, base_holds, has_room, pe_entry_rules, base_rules, import_symbols_rules, image_rules, x64_rules, windows_rules, MeetsWindows, IsReady, AreReady}
 use Rattle.ap_check.proofs.Held.{held}
 
 -- ---- an input whose rules hold
@@ -109,6 +113,39 @@ unchosen options inputs bytes off = ap (λ b. cond b (x64_rules (x64_of inputs) 
 pub chosen : (options : Options) (inputs : List Taken) (bytes : List ℕ) (o : Option Taken) → for_windows options ≡ true → x64_of inputs ≡ o → windows_rules options inputs bytes ≡ x64_rules o bytes
 unfolding windows_rules
 chosen options inputs bytes o on is = ap (λ b. cond b (x64_rules (x64_of inputs) bytes) []) on ∙ ap (λ x. x64_rules x bytes) is
+
+-- ---- inputs whose rules hold together
+
+range-stands : (n : ℕ) (loads : List Load) (t : ImportTable) (rest : Rules Fault) → first_fault (range_rules n loads t ++ rest) ≡ None → AreStanding loads t
+range-stands n loads t rest none =
+    let ranges = append-none (range_rules n loads t) rest none in
+    let table = held (are_between 20 t.idata t.idata_end loads) (fault_of n 28 1 t.idata) ((are_between 1 t.iat t.iat_end loads, fault_of n 28 2 t.iat) ∷ []) ranges.0 in
+    let slots = held (are_between 1 t.iat t.iat_end loads) (fault_of n 28 2 t.iat) [] table.1 in
+    record { table = table.0; slots = slots.0 }
+
+table-stands : (n : ℕ) (loads : List Load) (base : ℕ) (memory : Memory) (o : Option ImportTable) → first_fault (table_rules n loads base memory o) ≡ None → IfSome o (AreStanding loads)
+table-stands n loads base memory None none = tt
+table-stands n loads base memory (Some t) none = range-stands n loads t (walked_rules n base memory t) none
+
+x64-ready : (o : Option Taken) (bytes : List ℕ) → IfSome o (λ e. e.machine ≡ X64) → first_fault (x64_rules o bytes) ≡ None → IsSomeAnd o MeetsWindows
+unfolding import_rules
+x64-ready None bytes machine none = absurd (cc)
+x64-ready (Some e) bytes machine none =
+    let both = append-none (image_rules e) (import_rules e (base_of e) bytes) none in
+    (image-meets e (base_of e) machine both.0 (table-stands e.number e.loads (base_of e) (memory_of (bytes_in bytes) e.loads) (table_of e.symbols) both.1) refl).meets
+
+x64-case : (e : Taken) (o : Option Taken) (b : Bool) → is_machine X64 e.machine ≡ b → IfSome o (λ e. e.machine ≡ X64) → IfSome (cond b (Some e) o) (λ e. e.machine ≡ X64)
+x64-case e o true is rest = sym (is_machine-same X64 e.machine is)
+x64-case e o false is rest = rest
+
+x64-machine : (inputs : List Taken) → IfSome (x64_of inputs) (λ e. e.machine ≡ X64)
+x64-machine [] = tt
+x64-machine (e ∷ inputs) = x64-case e (x64_of inputs) (is_machine X64 e.machine) refl (x64-machine inputs)
+
+-- where Windows was chosen, the input for x86-64 meets what it asks
+pub windows-ready : (options : Options) (inputs : List Taken) (bytes : List ℕ) → first_fault (windows_rules options inputs bytes) ≡ None → AreReady options inputs
+windows-ready options inputs bytes none = λ on.
+    x64-ready (x64_of inputs) bytes (x64-machine inputs) (ap first_fault (sym (chosen options inputs bytes (x64_of inputs) on refl)) ∙ none)
 
 -- ---- bytes in memory
 

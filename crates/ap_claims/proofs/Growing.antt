@@ -17,7 +17,7 @@ pub record IsFrom (at : ℕ) (claims : List Claim) (text : List ℕ) : Type 0 wh
   pub held : (c : Claim) → Among c claims → Holds text (c.at - at) c.bytes
   pub free : (k : ℕ) → IsFree claims (at + k) → get_or text k 0 ≡ 0
 
-holds-front : (xs ys : List ℕ) (k : ℕ) (part : List ℕ) → Holds xs k part → Holds (xs ++ ys) k part
+pub holds-front : (xs ys : List ℕ) (k : ℕ) (part : List ℕ) → Holds xs k part → Holds (xs ++ ys) k part
 holds-front xs ys k part h = record {
   fits = (let a = length-append xs ys in let f = h.fits in omega arith);
   same = λ i low. (let f = h.fits in get_or_append_left xs ys 0 (k + i) (omega arith)) ∙ h.same i low;

@@ -1,7 +1,14 @@
 -- How a link of inputs that were taken ends.
-use Rattle.std.proofs.Common.{◌≡◌, ◌≢◌, inr, ℕ, List, ◌++◌, length, IfSome, Option, Some, None, Ok, Err, refl, sym, ap, ◌∙◌, subst}
-use Rattle.ap_fields.specs.FirstFault.{first_fault}
-use Rattle.ap_files.specs.Files.{FileMap, FileState, with_file, told_bytes}
+use Rattle.std.proofs.Common.{◌≡◌, ◌≢◌, inl, inr, ℕ, Bool, true, false, cond, List, ◌++◌, length, IfSome, Option, Some, None, Ok, Err, refl, sym, ap, ◌∙◌, subst}
+use Rattle.ap_fields.specs.FirstFault.{Rules, first_fault}
+use Rattle.ap_files.specs.Files.{FileMap, FileState, ForFile, with_file, told_bytes}
+use Rattle.ap_files.specs.Reads.{HasFile, ReadFails}
+use Rattle.ap_claims.specs.Blocks.{BlockState}
+use Rattle.ap_elf.specs.declared.machine.Machine.TheVariants.{X64}
+use Rattle.ap_elf.specs.Machines.{is_machine}
+use Rattle.ap_check.specs.declared.end.CheckEnd.{CheckEnd}
+use Rattle.ap_check.specs.declared.end.CheckEnd.TheVariants as check
+use Rattle.ap_check.specs.ImportRule.{ChecksTold}
 use Rattle.ap_files.specs.Appends.{Fails, Makes, HasPart}
 use Rattle.ap_files.specs.declared.failure.FileFault.{FileFault}
 use Rattle.ap_files.specs.declared.failure.FileFault.TheVariants.{Read, Write}
@@ -9,8 +16,7 @@ use Rattle.ap_files.proofs.ReadLemmas.{told_as}
 use Rattle.ap_check.specs.declared.fault.Fault.{Fault}
 use Rattle.ap_check.specs.declared.options.Options.{Options}
 use Rattle.ap_check.specs.Inputs.{Taken, input_of, inputs_of}
-use Rattle.ap_check.specs.Both.{pair_rules, first_fault_of_both, IsTakenOf, AreTakenOf}
-use Rattle.ap_check.proofs.Laws.{input_meets}
+use Rattle.ap_check.specs.Both.{x64_bytes, pair_rules, first_fault_of_both, IsTakenOf, AreTakenOf}
 use Rattle.ap_check.proofs.Pairs.{pair-says}
 use Rattle.ap_layout.specs.Positions.{Positions, positions_of}
 use Rattle.ap_script.specs.Blocks.{block_of}
@@ -20,9 +26,10 @@ use Rattle.ap_link.specs.declared.source.Source.{Source}
 use Rattle.ap_link.specs.Linked.{block_for, tail_of}
 use Rattle.ap_link.specs.LinkedClaims.{linked_of}
 use Rattle.ap_link.specs.Answers.{IsLinked}
-use Rattle.ap_link.specs.FileAnswers.{HasInputs, HasLinkedPart, LinksFiles}
-use Rattle.ap_link.specs.Sources.{second_name, second_taken, second_bytes, second_told, tail_told, AreReadable, IsSource, end_of_fault}
-use Rattle.ap_link.proofs.LinkedFiles.{AreLinkable, apart-by, file-linked, file-length, linked-is}
+use Rattle.ap_link.specs.FileAnswers.{HasInputs, AreRefused, AreUnread, HasLinkedPart, LinksFiles}
+use Rattle.ap_link.specs.Lent.{LendsToFiles}
+use Rattle.ap_link.specs.Sources.{second_name, second_taken, second_bytes, second_told, tail_told, x64_name, AreReadable, IsSource, end_of_check, end_of_fault}
+use Rattle.ap_link.proofs.LinkedFiles.{both-linkable, file-linked, file-length, linked-is}
 
 -- ---- what is told of inputs
 
@@ -47,6 +54,31 @@ pub sources-taken : (kept : Option FileMap) (first : Source) (second : Option So
 sources-taken kept first None h k = h.told
 sources-taken kept first (Some s) h k = λ m e. let t = h.told m e in (t.0, t.1, λ m' e'. let u = k.told m' e' in (u.0, u.1, (t.2, u.2)))
 
+-- their bytes, and the first rule that they break together, as a check of the file of the input for x86-64 told it
+pub record ArePassed (options : Options) (first : Source) (second : Option Source) (broken : Option Fault) (a : List ℕ) (b : Option (List ℕ)) : Type 0 where
+  pub taken : AreTakenOf a b first.input.now (second_taken second)
+  pub fault : first_fault_of_both options a b ≡ broken
+
+passed-by : (options : Options) (first : Source) (second : Option Source) (fault : Option Fault) (a : List ℕ) (b : Option (List ℕ)) → AreTakenOf a b first.input.now (second_taken second)
+    → first_fault (pair_rules options first.input.now (second_taken second) (x64_bytes first.input.now a b)) ≡ fault → ArePassed options first second fault a b
+passed-by options first second fault a b taken says = record { taken = taken; fault = pair-says options a b first.input.now (second_taken second) taken ∙ says }
+
+two-passed : (is : Bool) (rules : List ℕ → Rules Fault) (kept : Option FileMap) (one two : List ℕ) (fault : Option Fault) (P : List ℕ → List ℕ → Type 0) → ForFile kept (cond is one two) (λ b. first_fault (rules b) ≡ fault)
+    → HasFile kept one (λ a. HasFile kept two (P a)) → HasFile kept one (λ a. HasFile kept two (λ b. P a b × (first_fault (rules (cond is a b)) ≡ fault)))
+two-passed true rules kept one two fault P says has = λ m k. let t = has m k in (t.0, t.1, λ m' k'. let u = t.2 m' k' in (u.0, u.1, (u.2, says m t.0 k t.1)))
+two-passed false rules kept one two fault P says has = λ m k. let t = has m k in (t.0, t.1, λ m' k'. let u = t.2 m' k' in (u.0, u.1, (u.2, says m' u.0 k' u.1)))
+
+pub sources-passed : (options : Options) (kept : Option FileMap) (first : Source) (second : Option Source) (fault : Option Fault) → IsSource kept 1 first → IfSome second (λ s. IsSource kept 2 s)
+    → ForFile kept (x64_name first second) (λ b. first_fault (pair_rules options first.input.now (second_taken second) b) ≡ fault) → HasInputs kept first.name.now (second_name second) (ArePassed options first second fault)
+sources-passed options kept first None fault h k says = λ m e.
+    let t = sources-taken kept first None h k m e in
+    (t.0, t.1, passed-by options first None fault t.0 None t.2 (says m t.0 e t.1))
+sources-passed options kept first (Some s) fault h k says =
+    let e = first.input.now in
+    let P : List ℕ → List ℕ → Type 0 = λ a b. AreTakenOf a (Some b) e (Some s.input.now) in
+    let has = two-passed (is_machine X64 e.machine) (pair_rules options e (Some s.input.now)) kept first.name.now s.name.now fault P says (sources-taken kept first (Some s) h k) in
+    λ m r. let t = has m r in (t.0, t.1, λ m' r'. let u = t.2 m' r' in (u.0, u.1, passed-by options first (Some s) fault t.0 (Some u.0) u.2.0 u.2.1))
+
 -- and their files can be read while another is written
 pub sources-readable : (kept : Option FileMap) (first : Source) (second : Option Source) (out : List ℕ) → IsSource kept 1 first → IfSome second (λ s. IsSource kept 2 s) → first.name.now ≢ out → IfSome second (λ s. s.name.now ≢ out)
     → AreReadable kept first second out
@@ -64,7 +96,7 @@ pub record IsReady (options : Options) (e : Taken) (second : Option Source) (a :
 
 one-ready : (options : Options) (e : Taken) (a : List ℕ) → IsTakenOf 1 a e → first_fault_of_both options a None ≡ None → IsReady options e None a None
 one-ready options e a is none =
-    let able : AreLinkable (input_of 1 a) None = record { first = input_meets 1 a is.0; second = tt; differ = tt } in
+    let able = both-linkable options a None none in
     record {
       none = none;
       bytes = ap (λ (x : Taken). block_for options x None ++ tail_of x a None) is.1 ∙ sym (linked-is options a None able);
@@ -72,16 +104,10 @@ one-ready options e a is none =
       size = ap (λ (x : Taken). (positions_of options x None).total) is.1 ∙ sym (file-length options (input_of 1 a) a None able) ∙ sym (ap length (linked-is options a None able));
     }
 
-two-ready : (options : Options) (e : Taken) (s : Source) (a b : List ℕ) → IsTakenOf 1 a e → IsTakenOf 2 b s.input.now → first_fault (pair_rules options e (Some s.input.now)) ≡ None → first_fault_of_both options a (Some b) ≡ None
-    → IsReady options e (Some s) a (Some b)
-two-ready options e s a b is and pair none =
+two-ready : (options : Options) (e : Taken) (s : Source) (a b : List ℕ) → IsTakenOf 1 a e → IsTakenOf 2 b s.input.now → first_fault_of_both options a (Some b) ≡ None → IsReady options e (Some s) a (Some b)
+two-ready options e s a b is and none =
     let f : Taken = s.input.now in
-    let apart : e.machine ≢ f.machine = apart-by options e f pair in
-    let able : AreLinkable (input_of 1 a) (Some (input_of 2 b)) = record {
-      first = input_meets 1 a is.0;
-      second = input_meets 2 b and.0;
-      differ = λ same. apart (ap (λ (x : Taken). x.machine) is.1 ∙ same ∙ sym (ap (λ (x : Taken). x.machine) and.1));
-    } in
+    let able = both-linkable options a (Some b) none in
     record {
       none = none;
       bytes = ap (λ (x : Taken). block_for options x (Some f) ++ tail_of x a (Some (f, b))) is.1
@@ -93,11 +119,12 @@ two-ready options e s a b is and pair none =
           ∙ sym (file-length options (input_of 1 a) a (Some (input_of 2 b, b)) able) ∙ sym (ap length (linked-is options a (Some b) able));
     }
 
-ready : (options : Options) (e : Taken) (second : Option Source) (a : List ℕ) (b : Option (List ℕ)) → first_fault (pair_rules options e (second_taken second)) ≡ None → AreTakenOf a b e (second_taken second) → IsReady options e second a b
-ready options e None a None pair is = one-ready options e a is (pair-says options a None e None is ∙ pair)
-ready options e None a (Some b) pair is = absurd is
-ready options e (Some s) a None pair is = absurd is
-ready options e (Some s) a (Some b) pair is = two-ready options e s a b is.0 is.1 pair (pair-says options a (Some b) e (Some s.input.now) is ∙ pair)
+ready : (options : Options) (first : Source) (second : Option Source) (a : List ℕ) (b : Option (List ℕ)) → AreTakenOf a b first.input.now (second_taken second) → first_fault_of_both options a b ≡ None
+    → IsReady options first.input.now second a b
+ready options first None a None is none = one-ready options first.input.now a is none
+ready options first None a (Some b) is none = absurd is
+ready options first (Some s) a None is none = absurd is
+ready options first (Some s) a (Some b) is none = two-ready options first.input.now s a b is.0 is.1 none
 
 -- ---- the ends
 
@@ -109,10 +136,10 @@ pub record IsReadyFor (options : Options) (text : List ℕ) (n : ℕ) (a : List 
   pub size : n ≡ length (linked_of options a b)
 
 text-ready : (options : Options) (kept : Option FileMap) (first : Source) (second : Option Source) (block : List ℕ) (n : ℕ) (a : List ℕ) (b : Option (List ℕ))
-    → first_fault (pair_rules options first.input.now (second_taken second)) ≡ None → block ≡ block_for options first.input.now (second_taken second) → n ≡ (positions_of options first.input.now (second_taken second)).total
-    → AreTakenOf a b first.input.now (second_taken second) → AreTold kept first.name.now (second_name second) a b → IsReadyFor options (block ++ tail_told kept first second) n a b
-text-ready options kept first second block n a b pair is total taken told =
-    let r = ready options first.input.now second a b pair taken in
+    → block ≡ block_for options first.input.now (second_taken second) → n ≡ (positions_of options first.input.now (second_taken second)).total
+    → ArePassed options first second None a b → AreTold kept first.name.now (second_name second) a b → IsReadyFor options (block ++ tail_told kept first second) n a b
+text-ready options kept first second block n a b is total passed told =
+    let r = ready options first second a b passed.taken passed.fault in
     record {
       none = r.none;
       text_is = ap (λ x. x ++ tail_told kept first second) is
@@ -125,13 +152,14 @@ text-ready options kept first second block n a b pair is total taken told =
 
 -- of inputs that were taken and break no rule
 pub all-ready : (options : Options) (kept : Option FileMap) (first : Source) (second : Option Source) (block : List ℕ) (n : ℕ) → IsSource kept 1 first → IfSome second (λ s. IsSource kept 2 s)
-    → first_fault (pair_rules options first.input.now (second_taken second)) ≡ None → block ≡ block_for options first.input.now (second_taken second) → n ≡ (positions_of options first.input.now (second_taken second)).total
+    → ForFile kept (x64_name first second) (λ b. first_fault (pair_rules options first.input.now (second_taken second) b) ≡ None)
+    → block ≡ block_for options first.input.now (second_taken second) → n ≡ (positions_of options first.input.now (second_taken second)).total
     → HasInputs kept first.name.now (second_name second) (IsReadyFor options (block ++ tail_told kept first second) n)
-all-ready options kept first second block n h k pair is total =
-    inputs-have (λ a b. AreTakenOf a b first.input.now (second_taken second) × AreTold kept first.name.now (second_name second) a b)
+all-ready options kept first second block n h k says is total =
+    inputs-have (λ a b. ArePassed options first second None a b × AreTold kept first.name.now (second_name second) a b)
     (IsReadyFor options (block ++ tail_told kept first second) n) kept first.name.now (second_name second)
-    (λ a b t. text-ready options kept first second block n a b pair is total t.0 t.1)
-    (inputs-told (λ a b. AreTakenOf a b first.input.now (second_taken second)) kept first.name.now (second_name second) (sources-taken kept first second h k))
+    (λ a b t. text-ready options kept first second block n a b is total t.0 t.1)
+    (inputs-told (ArePassed options first second None) kept first.name.now (second_name second) (sources-passed options kept first second None h k says))
 
 -- the file is made of them
 pub links-made : (options : Options) (old new : FileState) (first : List ℕ) (second : Option (List ℕ)) (out text : List ℕ) (n : ℕ) → HasInputs old.kept first second (IsReadyFor options text n)
@@ -164,12 +192,32 @@ links-unmade options old new first second out text n f e has ends m =
     subst (λ x. LinksFiles options old new first second out (Err x)) (sym ends) (links-by options old new first second out text n f has m)
 
 -- the inputs break a rule together
-pub links-refused : (options : Options) (old : FileState) (first : Source) (second : Option Source) (out : List ℕ) (f : Fault) → IsSource old.kept 1 first → IfSome second (λ s. IsSource old.kept 2 s)
-    → ((a : List ℕ) (b : Option (List ℕ)) → AreTakenOf a b first.input.now (second_taken second) → first_fault_of_both options a b ≡ Some f)
-    → LinksFiles options old old first.name.now (second_name second) out (Err (end.Rule f))
-links-refused options old first None out f h k says = (refl, λ m e. let t = h.told m e in (t.0, t.1, inr (t.2.0, says t.0 None t.2)))
-links-refused options old first (Some s) out f h k says =
-    (refl, λ m e. let t = h.told m e in (t.0, t.1, inr (t.2.0, λ m' e'. let u = k.told m' e' in (u.0, u.1, says t.0 (Some u.0) (t.2, u.2)))))
+refused-by : (options : Options) (kept : Option FileMap) (first : Source) (second : Option Source) (f : Fault) → HasInputs kept first.name.now (second_name second) (ArePassed options first second (Some f))
+    → AreRefused options kept first.name.now (second_name second) f
+refused-by options kept first None f has = λ m e. let t = has m e in (t.0, t.1, inr (t.2.taken.0, t.2.fault))
+refused-by options kept first (Some s) f has = λ m e.
+    let t = has m e in
+    let u = t.2 m e in
+    (t.0, t.1, inr (u.2.taken.0.0, λ m' e'. let v = t.2 m' e' in (v.0, v.1, v.2.fault)))
+
+unread : (old new : FileState) (first : List ℕ) (second : Option (List ℕ)) → ReadFails old new → AreUnread old new first second
+unread old new first None r = record { files = r.files; write_faults = r.write_faults; cause = inl r.rose }
+unread old new first (Some n) r = inl (record { files = r.files; write_faults = r.write_faults; cause = inl r.rose })
+
+-- a check of them refuses them, or fails to read one
+pub links-unchecked : (T : Type 0) (options : Options) (old new : FileState) (first : Source) (second : Option Source) (out name : List ℕ) (end : CheckEnd) → IsSource old.kept 1 first
+    → IfSome second (λ s. IsSource old.kept 2 s) → name ≡ x64_name first second → ChecksTold {T = T} old new name (pair_rules options first.input.now (second_taken second)) (Err end)
+    → LinksFiles options old new first.name.now (second_name second) out (Err (end_of_check end))
+links-unchecked T options old new first second out name (check.Rule f) h k is told =
+    let says = subst (λ n. ForFile old.kept n (λ b. first_fault (pair_rules options first.input.now (second_taken second) b) ≡ Some f)) is told.1 in
+    (told.0, refused-by options old.kept first second f (sources-passed options old.kept first second (Some f) h k says))
+links-unchecked T options old new first second out name check.ReadFault h k is told = inl (unread old new first.name.now (second_name second) told)
+
+-- and the block that was lent stays
+pub lends-unchecked : (T : Type 0) (options : Options) (old new : FileState) (block : BlockState) (name : List ℕ) (first : List ℕ) (second : Option (List ℕ)) (rules : List ℕ → Rules Fault) (end : CheckEnd)
+    → ChecksTold {T = T} old new name rules (Err end) → LendsToFiles options old.kept block block first second (Err (end_of_check end))
+lends-unchecked T options old new block name first second rules (check.Rule f) told = refl
+lends-unchecked T options old new block name first second rules check.ReadFault told = inl refl
 
 -- ---- what a job gives, by its inputs
 
@@ -179,10 +227,3 @@ positions-as options s l e x o y is also h k = is ∙ ap (λ z. positions_of z x
 pub block-as : (block : List ℕ) (options s : Options) (l : Positions) (e x : Taken) (o y : Option Taken) → block ≡ block_of s (inputs_of x y) l → s ≡ options → l ≡ positions_of s x y → x ≡ e → y ≡ o → block ≡ block_for options e o
 block-as block options s l e x o y is t p h k =
     is ∙ ap (block_of s (inputs_of x y)) p ∙ ap (λ z. block_for z x y) t ∙ ap (λ z. block_for options z y) h ∙ ap (block_for options e) k
-
-pub pair-as : (options : Options) (e : Taken) (o y : Option Taken) → first_fault (pair_rules options e y) ≡ None → y ≡ o → first_fault (pair_rules options e o) ≡ None
-pair-as options e o y h k = ap (λ z. first_fault (pair_rules options e z)) (sym k) ∙ h
-
-pub says-as : (options : Options) (e : Taken) (o y : Option Taken) (f : Fault) → ((a : List ℕ) (b : Option (List ℕ)) → AreTakenOf a b e y → first_fault_of_both options a b ≡ Some f) → y ≡ o
-    → (a : List ℕ) (b : Option (List ℕ)) → AreTakenOf a b e o → first_fault_of_both options a b ≡ Some f
-says-as options e o y f h k a b is = h a b (subst (λ z. AreTakenOf a b e z) (sym k) is)

@@ -2,13 +2,12 @@
 use Rattle.std.proofs.Common.{◌≡◌, ℕ, List, get_or, inr, Option, Some, None, Err, refl, sym, ap, ◌∙◌, subst}
 use Rattle.std.specs.Prelude.{IfSome}
 use Rattle.ap_fields.specs.FirstFault.{first_fault}
-use Rattle.ap_files.specs.Files.{FileMap}
+use Rattle.ap_files.specs.Files.{FileMap, ForFile}
 use Rattle.ap_claims.specs.Blocks.{BlockState}
 use Rattle.ap_claims.specs.Files.{IsFilled}
 use Rattle.ap_check.specs.declared.options.Options.{Options}
 use Rattle.ap_check.specs.Inputs.{Taken, input_of, inputs_of}
 use Rattle.ap_check.specs.Both.{pair_rules, first_fault_of_both, AreTakenOf}
-use Rattle.ap_check.proofs.Pairs.{pair-says}
 use Rattle.ap_layout.specs.Positions.{positions_of}
 use Rattle.ap_layout.proofs.Fitting.{positions-fit}
 use Rattle.ap_script.specs.Claims.{block_claims}
@@ -18,20 +17,20 @@ use Rattle.ap_link.specs.declared.end.LinkEnd.{LinkEnd}
 use Rattle.ap_link.specs.declared.source.Source.{Source}
 use Rattle.ap_link.specs.Linked.{tail_of, second_of, taken_second}
 use Rattle.ap_link.specs.Lent.{IsLent, HasLent, LendsToFiles}
-use Rattle.ap_link.specs.Sources.{second_name, second_taken, IsSource, end_of_fault}
+use Rattle.ap_link.specs.Sources.{second_name, second_taken, x64_name, IsSource, end_of_fault}
 use Rattle.ap_link.proofs.ClaimedFiles.{bytes-lent, owners-lent}
-use Rattle.ap_link.proofs.Delivering.{inputs-have, sources-taken}
+use Rattle.ap_link.proofs.Delivering.{inputs-have, ArePassed, sources-passed}
 use Rattle.ap_link.proofs.LinkedFiles.{AreLinkable, both-linkable, linked-is}
 
 -- the block of the inputs that are taken of some bytes
 abbrev IsFilledFor : Options → Taken → Option Taken → BlockState → Type 0
 IsFilledFor options e o block = IsFilled (block_claims options (inputs_of e o) (positions_of options e o)) block
 
-lent-where : (options : Options) (a : List ℕ) (b : Option (List ℕ)) (block : BlockState) → AreLinkable (input_of 1 a) (taken_second b) → IsFilledFor options (input_of 1 a) (taken_second b) block → IsLent options a b block
+lent-where : (options : Options) (a : List ℕ) (b : Option (List ℕ)) (block : BlockState) → AreLinkable options (input_of 1 a) (taken_second b) → IsFilledFor options (input_of 1 a) (taken_second b) block → IsLent options a b block
 lent-where options a b block able h =
     let e : Taken = input_of 1 a in
     let o : Option Taken = taken_second b in
-    let fits = positions-fit options e o able.first able.second in
+    let fits = positions-fit options e o able.ready able.first able.second in
     record {
       bytes = λ k low. bytes-lent options (inputs_of e o) (positions_of options e o) (tail_of e a (second_of b)) block k fits h low ∙ ap (λ w. get_or w k 0) (sym (linked-is options a b able));
       owners = λ k low. owners-lent (block_claims options (inputs_of e o) (positions_of options e o)) e a (second_of b) block k h low;
@@ -54,14 +53,14 @@ second-as a (Some b) e None is = absurd is
 second-as a (Some b) e (Some f) is = (is.0.1, ap Some is.1.1)
 
 pub lent-files : (options s : Options) (kept : Option FileMap) (first : Source) (second : Option Source) (x : Taken) (y : Option Taken) (block : BlockState) → IsSource kept 1 first → IfSome second (λ t. IsSource kept 2 t)
-    → first_fault (pair_rules options first.input.now (second_taken second)) ≡ None → s ≡ options → x ≡ first.input.now → y ≡ second_taken second → IsFilledFor s x y block
+    → ForFile kept (x64_name first second) (λ b. first_fault (pair_rules options first.input.now (second_taken second) b) ≡ None) → s ≡ options → x ≡ first.input.now → y ≡ second_taken second → IsFilledFor s x y block
     → HasLent options kept block first.name.now (second_name second)
-lent-files options s kept first second x y block h k pair also same some filled =
-    inputs-have (λ a b. AreTakenOf a b first.input.now (second_taken second)) (λ a b. IsLent options a b block) kept first.name.now (second_name second)
+lent-files options s kept first second x y block h k says also same some filled =
+    inputs-have (ArePassed options first second None) (λ a b. IsLent options a b block) kept first.name.now (second_name second)
     (λ a b is.
-    let both = second-as a b first.input.now (second_taken second) is in
-    lent options s a b x y block (pair-says options a b first.input.now (second_taken second) is ∙ pair) also (same ∙ both.0) (some ∙ both.1) filled)
-    (sources-taken kept first second h k)
+    let both = second-as a b first.input.now (second_taken second) is.taken in
+    lent options s a b x y block is.fault also (same ∙ both.0) (some ∙ both.1) filled)
+    (sources-passed options kept first second None h k says)
 
 -- and where the file wasn't made
 pub lent-unmade : (options : Options) (kept : Option FileMap) (old new : BlockState) (first : List ℕ) (second : Option (List ℕ)) (f : FileFault) (e : LinkEnd) → e ≡ end_of_fault f → HasLent options kept new first second

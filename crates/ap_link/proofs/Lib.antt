@@ -11,6 +11,7 @@ pub mod Holding
 pub mod Fitting
 pub mod LinkedImages
 pub mod PlacedTexts
+pub mod PeLinked
 pub mod LinkedFiles
 pub mod Building
 pub mod EndsBehind

@@ -14,9 +14,11 @@ use Rattle.ap_fields.proofs.FirstFaults.{append-none}
 use Rattle.ap_check.specs.declared.fault.Fault.{Fault}
 use Rattle.ap_check.specs.declared.options.Options.{Options}
 use Rattle.ap_check.specs.Rules.{fault_of, rules_of}
-use Rattle.ap_check.specs.Both.{machines_rules, pair_rules, first_fault_of_both}
+use Rattle.ap_check.specs.Windows.{windows_rules, AreReady}
+use Rattle.ap_check.specs.Both.{machines_rules, x64_bytes, first_fault_of_both}
 use Rattle.ap_check.proofs.Laws.{input_meets}
 use Rattle.ap_check.proofs.Pairs.{pair-says}
+use Rattle.ap_check.proofs.WindowsLemmas.{windows-ready}
 use Rattle.ap_elf.specs.Machines.{granule_of, number_of}
 use Rattle.ap_check.specs.Inputs.{Taken, Meets, input_of, taken_of, loads_of, inputs_of}
 use Rattle.ap_loader.specs.Embedded.{has_magic, taken}
@@ -28,6 +30,7 @@ use Rattle.ap_layout.specs.Areas.{end_from}
 use Rattle.ap_layout.specs.Positions.{Positions, Fits, positions_of, placed_inputs, input_areas, tables_start, table_length}
 use Rattle.ap_layout.proofs.Rounded.{granule_of-is}
 use Rattle.ap_layout.proofs.NewAreas.{end-least}
+use Rattle.ap_layout.proofs.HeaderLengths.{pe_length-most}
 use Rattle.ap_layout.proofs.Fitting.{positions-fit, table-most}
 use Rattle.ap_script.specs.Tables.{embedded_bytes, table_text}
 use Rattle.ap_script.specs.Blocks.{block_of, body_of}
@@ -46,7 +49,10 @@ use Rattle.ap_link.specs.Linked.{input_text, input_end, tail_of, block_for, seco
 use Rattle.ap_link.specs.LinkedClaims.{linked_claims, tail_claims, linked_of}
 use Rattle.ap_link.specs.Answers.{Carries, IsLinked}
 use Rattle.ap_link.proofs.ClaimedFiles.{text-end, whole-claimed}
+use Rattle.ap_pe.specs.Linked.{program_of}
 use Rattle.ap_link.proofs.LinkedImages.{elf-is-same, ape-is-same}
+use Rattle.ap_link.proofs.PeImageProof.{pe-is-same}
+use Rattle.ap_link.proofs.PeLinked.{pe-in}
 use Rattle.ap_link.proofs.PlacedTexts.{text-held}
 use Rattle.ap_link.proofs.TakenStatements.{block-magic, taken-block}
 
@@ -60,21 +66,22 @@ unfolding input_of taken_of
 loads-taken n b = refl
 
 -- one or two inputs that may be linked
-pub record AreLinkable (e : Taken) (o : Option Taken) : Type 0 where
+pub record AreLinkable (options : Options) (e : Taken) (o : Option Taken) : Type 0 where
+  pub ready : AreReady options (inputs_of e o)
   pub first : Meets e
   pub second : IfSome o (λ f. Meets f)
   pub differ : IfSome o (λ f. e.machine ≢ f.machine)
 
-all-meet : (e : Taken) (o : Option Taken) → AreLinkable e o → All (λ i. Meets i) (inputs_of e o)
-all-meet e None h zero d low = h.first
-all-meet e None h (suc k) d low = absurd (omega (arith, low))
-all-meet e (Some f) h zero d low = h.first
-all-meet e (Some f) h (suc zero) d low = h.second
-all-meet e (Some f) h (suc (suc k)) d low = absurd (omega (arith, low))
+all-meet : (options : Options) (e : Taken) (o : Option Taken) → AreLinkable options e o → All (λ i. Meets i) (inputs_of e o)
+all-meet options e None h zero d low = h.first
+all-meet options e None h (suc k) d low = absurd (omega (arith, low))
+all-meet options e (Some f) h zero d low = h.first
+all-meet options e (Some f) h (suc zero) d low = h.second
+all-meet options e (Some f) h (suc (suc k)) d low = absurd (omega (arith, low))
 
-machines-differ : (e : Taken) (o : Option Taken) → AreLinkable e o → MachinesDiffer (inputs_of e o)
-machines-differ e None h = (λ k d low. absurd (omega (arith, low)), tt)
-machines-differ e (Some f) h = (other, ((λ k d low. absurd (omega (arith, low))), tt))
+machines-differ : (options : Options) (e : Taken) (o : Option Taken) → AreLinkable options e o → MachinesDiffer (inputs_of e o)
+machines-differ options e None h = (λ k d low. absurd (omega (arith, low)), tt)
+machines-differ options e (Some f) h = (other, ((λ k d low. absurd (omega (arith, low))), tt))
   where
     other : All (λ i. e.machine ≢ i.machine) (f ∷ [])
     other zero d low = h.differ
@@ -111,33 +118,33 @@ total-is options e (Some (f, b)) = refl
 abbrev pub file-of : Options → Taken → List ℕ → Option (Taken × List ℕ) → List ℕ
 file-of options e a o = block_for options e (bare-of o) ++ tail_of e a o
 
-pub file-length : (options : Options) (e : Taken) (a : List ℕ) (o : Option (Taken × List ℕ)) → AreLinkable e (bare-of o) → length (file-of options e a o) ≡ (positions_of options e (bare-of o)).total
+pub file-length : (options : Options) (e : Taken) (a : List ℕ) (o : Option (Taken × List ℕ)) → AreLinkable options e (bare-of o) → length (file-of options e a o) ≡ (positions_of options e (bare-of o)).total
 file-length options e a o h =
-    let fits = positions-fit options e (bare-of o) h.first h.second in
+    let fits = positions-fit options e (bare-of o) h.ready h.first h.second in
     linked-length options e a o (positions_of options e (bare-of o)) (block_for options e (bare-of o)) (length-block options (inputs_of e (bare-of o)) (positions_of options e (bare-of o)) fits) (total-is options e o)
 
-total-small : (options : Options) (e : Taken) (o : Option Taken) → AreLinkable e o → (positions_of options e o).total < 2 ^ 31
-total-small options e o h = (positions-fit options e o h.first h.second).small
+total-small : (options : Options) (e : Taken) (o : Option Taken) → AreLinkable options e o → (positions_of options e o).total < 2 ^ 31
+total-small options e o h = (positions-fit options e o h.ready h.first h.second).small
 
-total-past : (options : Options) (e : Taken) (a : List ℕ) (o : Option (Taken × List ℕ)) → AreLinkable e (bare-of o) → BLOCK ≤ length (file-of options e a o)
+total-past : (options : Options) (e : Taken) (a : List ℕ) (o : Option (Taken × List ℕ)) → AreLinkable options e (bare-of o) → BLOCK ≤ length (file-of options e a o)
 total-past options e a o h =
-    let fits = positions-fit options e (bare-of o) h.first h.second in
+    let fits = positions-fit options e (bare-of o) h.ready h.first h.second in
     let l1 = length-block options (inputs_of e (bare-of o)) (positions_of options e (bare-of o)) fits in
     let l2 = length-append (block_for options e (bare-of o)) (tail_of e a o) in
     omega arith
 
 -- ---- the first input
 
-first-held : (options : Options) (e : Taken) (a : List ℕ) (o : Option (Taken × List ℕ)) → AreLinkable e (bare-of o)
+first-held : (options : Options) (e : Taken) (a : List ℕ) (o : Option (Taken × List ℕ)) → AreLinkable options e (bare-of o)
     → HoldAll (granule_of e.machine) (bytes_in a) (file-of options e a o) e.loads (input_areas e BLOCK)
 first-held options e a None h =
-    let fits = positions-fit options e None h.first h.second in
+    let fits = positions-fit options e None h.ready h.first h.second in
     let w : List ℕ = block_for options e None in
     let t : List ℕ = input_text BLOCK e a in
     subst (λ x. HoldAll (granule_of e.machine) (bytes_in a) (w ++ x) e.loads (input_areas e BLOCK)) (append-nil t)
     (text-held 0 (granule_of e.machine) (bytes_in a) e.loads BLOCK w [] (granule_of-is e.machine) (omega arith) (length-block options (inputs_of e None) (positions_of options e None) fits))
 first-held options e a (Some (f, b)) h =
-    let fits = positions-fit options e (Some f) h.first h.second in
+    let fits = positions-fit options e (Some f) h.ready h.first h.second in
     text-held 0 (granule_of e.machine) (bytes_in a) e.loads BLOCK (block_for options e (Some f)) (input_text (input_end e) f b) (granule_of-is e.machine) (omega arith)
     (length-block options (inputs_of e (Some f)) (positions_of options e (Some f)) fits)
 
@@ -146,12 +153,13 @@ unfolding positions_of
 first-table options e None rest fits = (block-tables options (inputs_of e None) (positions_of options e None) rest fits).0
 first-table options e (Some f) rest fits = (block-tables options (inputs_of e (Some f)) (positions_of options e (Some f)) rest fits).0
 
-first-linked : (options : Options) (n : ℕ) (a : List ℕ) (o : Option (Taken × List ℕ)) → AreLinkable (input_of n a) (bare-of o)
+first-linked : (options : Options) (n : ℕ) (a : List ℕ) (o : Option (Taken × List ℕ)) → AreLinkable options (input_of n a) (bare-of o)
     → IsLinkedIn (input_of n a) (entries_of a) (bytes_in a) (input_areas (input_of n a) BLOCK) (tables_start options (inputs_of (input_of n a) (bare-of o))) (file-of options (input_of n a) a o)
 first-linked options n a o h =
     let e : Taken = input_of n a in
-    let fits = positions-fit options e (bare-of o) h.first h.second in
+    let fits = positions-fit options e (bare-of o) h.ready h.first h.second in
     let most = table-most e h.first in
+    let pe = pe_length-most options (inputs_of e (bare-of o)) (all-meet options e (bare-of o) h) in
     let size = file-length options e a o h in
     let small = total-small options e (bare-of o) h in
     record {
@@ -167,10 +175,10 @@ first-linked options n a o h =
 
 -- ---- the second
 
-second-held : (options : Options) (e f : Taken) (a b : List ℕ) → AreLinkable e (Some f)
+second-held : (options : Options) (e f : Taken) (a b : List ℕ) → AreLinkable options e (Some f)
     → HoldAll (granule_of f.machine) (bytes_in b) (file-of options e a (Some (f, b))) f.loads (input_areas f (input_end e))
 second-held options e f a b h =
-    let fits = positions-fit options e (Some f) h.first h.second in
+    let fits = positions-fit options e (Some f) h.ready h.first h.second in
     let w : List ℕ = block_for options e (Some f) in
     let t : List ℕ = input_text BLOCK e a in
     let u : List ℕ = input_text (input_end e) f b in
@@ -187,13 +195,14 @@ second-table : (options : Options) (e f : Taken) (rest : List ℕ) → Fits opti
 unfolding positions_of
 second-table options e f rest fits = (block-tables options (inputs_of e (Some f)) (positions_of options e (Some f)) rest fits).1.0
 
-second-linked : (options : Options) (n : ℕ) (e : Taken) (a b : List ℕ) → AreLinkable e (Some (input_of n b))
+second-linked : (options : Options) (n : ℕ) (e : Taken) (a b : List ℕ) → AreLinkable options e (Some (input_of n b))
     → IsLinkedIn (input_of n b) (entries_of b) (bytes_in b) (input_areas (input_of n b) (input_end e)) (tables_start options (inputs_of e (Some (input_of n b))) + table_length e) (file-of options e a (Some (input_of n b, b)))
 second-linked options n e a b h =
     let f : Taken = input_of n b in
-    let fits = positions-fit options e (Some f) h.first h.second in
+    let fits = positions-fit options e (Some f) h.ready h.first h.second in
     let one = table-most e h.first in
     let two = table-most f h.second in
+    let pe = pe_length-most options (inputs_of e (Some f)) (all-meet options e (Some f) h) in
     let size = file-length options e a (Some (f, b)) h in
     let small = total-small options e (Some f) h in
     record {
@@ -233,7 +242,7 @@ ape-by m page place file header magic is =
 carries : (options : Options) (inputs : List Taken) (l : Positions) (rest : List ℕ) (n table : ℕ) (b : List ℕ) (areas : List Area)
     → All (λ i. Meets i) inputs → MachinesDiffer inputs → Fits options inputs l → IsOneOf (record { input = input_of n b; areas = areas; table = table }) (placed_inputs inputs l)
     → IsLinkedIn (input_of n b) (entries_of b) (bytes_in b) areas table (block_of options inputs l ++ rest)
-    → Carries b (input_of n b) table (statement_place options inputs l (input_of n b).machine) (block_of options inputs l ++ rest)
+    → Carries options b (input_of n b) table (statement_place options inputs l (input_of n b).machine) (block_of options inputs l ++ rest)
 carries options inputs l rest n table b areas meets differ fits has linked =
     let e : Taken = input_of n b in
     let file : List ℕ = block_of options inputs l ++ rest in
@@ -249,6 +258,8 @@ carries options inputs l rest n table b areas meets differ fits has linked =
           (taken-block options inputs l rest e.machine (embedded_bytes e table) meets fits header)))
           (same-as_ape (granule_of e.machine) (bytes_in b) (loads_in (entries_of b)) e.entry nothing_else (reading_over (number_of e.machine) page file (embedded_bytes e table))
           (ape-is-same e (entries_of b) (bytes_in b) areas table file page linked is)));
+      pe = λ chosen machine. pe-is-same e (entries_of b) (bytes_in b) areas table (program_of e) file
+          (pe-in options inputs l rest (record { input = e; areas = areas; table = table }) (entries_of b) (bytes_in b) meets differ fits has linked chosen machine);
     }
 
 -- ---- the whole
@@ -260,14 +271,14 @@ body-free options inputs l fits =
     let end = fits.body in
     free-delimiter (body_of options inputs l) (omega arith)
 
-claimed-file : (options : Options) (e : Taken) (a : List ℕ) (o : Option (Taken × List ℕ)) → AreLinkable e (bare-of o)
+claimed-file : (options : Options) (e : Taken) (a : List ℕ) (o : Option (Taken × List ℕ)) → AreLinkable options e (bare-of o)
     → IsFile (positions_of options e (bare-of o)).total (block_claims options (inputs_of e (bare-of o)) (positions_of options e (bare-of o)) ++ tail_claims e a o) (file-of options e a o)
 claimed-file options e a o h =
     whole-claimed (block_for options e (bare-of o)) (block_claims options (inputs_of e (bare-of o)) (positions_of options e (bare-of o))) e a o (positions_of options e (bare-of o)).total
-    (block-claimed options (inputs_of e (bare-of o)) (positions_of options e (bare-of o)) (positions-fit options e (bare-of o) h.first h.second)) (file-length options e a o h)
+    (block-claimed options (inputs_of e (bare-of o)) (positions_of options e (bare-of o)) (positions-fit options e (bare-of o) h.ready h.first h.second)) (file-length options e a o h)
 
 -- the file as it is written is the file of its claims
-pub linked-is : (options : Options) (a : List ℕ) (b : Option (List ℕ)) → AreLinkable (input_of 1 a) (taken_second b)
+pub linked-is : (options : Options) (a : List ℕ) (b : Option (List ℕ)) → AreLinkable options (input_of 1 a) (taken_second b)
     → linked_of options a b ≡ block_for options (input_of 1 a) (taken_second b) ++ tail_of (input_of 1 a) a (second_of b)
 unfolding linked_of
 linked-is options a None h = sym (files-made (positions_of options (input_of 1 a) None).total (linked_claims options a None) (file-of options (input_of 1 a) a None) (claimed-file options (input_of 1 a) a None h))
@@ -275,14 +286,14 @@ linked-is options a (Some b) h =
     let o : Option (Taken × List ℕ) = Some (input_of 2 b, b) in
     sym (files-made (positions_of options (input_of 1 a) (bare-of o)).total (linked_claims options a (Some b)) (file-of options (input_of 1 a) a o) (claimed-file options (input_of 1 a) a o h))
 
-text-linked : (options : Options) (a : List ℕ) (b : Option (List ℕ)) → AreLinkable (input_of 1 a) (taken_second b) → IsLinked options a b (linked_text options a b)
+text-linked : (options : Options) (a : List ℕ) (b : Option (List ℕ)) → AreLinkable options (input_of 1 a) (taken_second b) → IsLinked options a b (linked_text options a b)
 unfolding linked_text
 text-linked options a None h =
     let e : Taken = input_of 1 a in
     let l : Positions = positions_of options e None in
-    let fits = positions-fit options e None h.first h.second in
-    let meets = all-meet e None h in
-    let differ = machines-differ e None h in
+    let fits = positions-fit options e None h.ready h.first h.second in
+    let meets = all-meet options e None h in
+    let differ = machines-differ options e None h in
     record {
       bytes = sym (linked-is options a None h);
       size = file-length options e a None h;
@@ -302,9 +313,9 @@ text-linked options a (Some b) h =
     let f : Taken = input_of 2 b in
     let o : Option (Taken × List ℕ) = Some (f, b) in
     let l : Positions = positions_of options e (Some f) in
-    let fits = positions-fit options e (Some f) h.first h.second in
-    let meets = all-meet e (Some f) h in
-    let differ = machines-differ e (Some f) h in
+    let fits = positions-fit options e (Some f) h.ready h.first h.second in
+    let meets = all-meet options e (Some f) h in
+    let differ = machines-differ options e (Some f) h in
     record {
       bytes = sym (linked-is options a (Some b) h);
       size = file-length options e a o h;
@@ -322,28 +333,37 @@ text-linked options a (Some b) h =
       agree = claims-agree l.total (linked_claims options a (Some b)) (linked_text options a (Some b)) (claimed-file options e a o h);
     }
 
-pub file-linked : (options : Options) (a : List ℕ) (b : Option (List ℕ)) → AreLinkable (input_of 1 a) (taken_second b) → IsLinked options a b (linked_of options a b)
+pub file-linked : (options : Options) (a : List ℕ) (b : Option (List ℕ)) → AreLinkable options (input_of 1 a) (taken_second b) → IsLinked options a b (linked_of options a b)
 file-linked options a b h = let made = text-linked options a b h in subst (IsLinked options a b) made.bytes made
 
 -- ---- inputs that break no rule
 
-pub apart-by : (options : Options) (e f : Taken) → first_fault (pair_rules options e (Some f)) ≡ None → e.machine ≢ f.machine
-apart-by options e f none same =
+machines-apart : (e f : Taken) → first_fault (machines_rules (number_of e.machine) (number_of f.machine)) ≡ None → e.machine ≢ f.machine
+machines-apart e f none same =
     let number : number_of e.machine ≡ number_of f.machine = ap number_of same in
     let test : (number_of e.machine == number_of f.machine) ≡ true = grind (arith, nat_tests) in
-    let fails : first_fault (pair_rules options e (Some f)) ≡ Some (fault_of 2 23 0 (number_of f.machine)) =
+    let fails : first_fault (machines_rules (number_of e.machine) (number_of f.machine)) ≡ Some (fault_of 2 23 0 (number_of f.machine)) =
     ap (λ t. cond (not t) None (Some (fault_of 2 23 0 (number_of f.machine)))) test in
     let clash : None ≡ Some (fault_of 2 23 0 (number_of f.machine)) = sym none ∙ fails in
     cc
 
-pub both-linkable : (options : Options) (a : List ℕ) (b : Option (List ℕ)) → first_fault_of_both options a b ≡ None → AreLinkable (input_of 1 a) (taken_second b)
-both-linkable options a None none = record { first = input_meets 1 a none; second = tt; differ = tt }
+pub both-linkable : (options : Options) (a : List ℕ) (b : Option (List ℕ)) → first_fault_of_both options a b ≡ None → AreLinkable options (input_of 1 a) (taken_second b)
+both-linkable options a None none =
+    let e : Taken = input_of 1 a in
+    let two = append-none (rules_of 1 a) (windows_rules options (e ∷ []) a) none in
+    record { ready = windows-ready options (e ∷ []) a two.1; first = input_meets 1 a two.0; second = tt; differ = tt }
 both-linkable options a (Some b) none =
-    let rest : Rules Fault = rules_of 2 b ++ machines_rules (header_of a).e_machine (header_of b).e_machine in
-    let one = append-none (rules_of 1 a) rest none in
-    let two = append-none (rules_of 2 b) (machines_rules (header_of a).e_machine (header_of b).e_machine) one.1 in
+    let e : Taken = input_of 1 a in
+    let f : Taken = input_of 2 b in
+    let bytes = x64_bytes e a (Some b) in
+    let windows = windows_rules options (e ∷ f ∷ []) bytes in
+    let together : Rules Fault = machines_rules (header_of a).e_machine (header_of b).e_machine ++ windows in
+    let one = append-none (rules_of 1 a) (rules_of 2 b ++ together) none in
+    let two = append-none (rules_of 2 b) together one.1 in
+    let taken = append-none (machines_rules (number_of e.machine) (number_of f.machine)) windows (sym (pair-says options a (Some b) e (Some f) ((one.0, refl), (two.0, refl))) ∙ none) in
     record {
+      ready = windows-ready options (e ∷ f ∷ []) bytes taken.1;
       first = input_meets 1 a one.0;
       second = input_meets 2 b two.0;
-      differ = apart-by options (input_of 1 a) (input_of 2 b) (sym (pair-says options a (Some b) (input_of 1 a) (Some (input_of 2 b)) ((one.0, refl), (two.0, refl))) ∙ none);
+      differ = machines-apart e f taken.0;
     }

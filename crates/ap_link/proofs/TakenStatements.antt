@@ -1,5 +1,5 @@
 -- The statement that a loader takes of a file that begins with a block.
-use Rattle.std.proofs.Common.{◌≡◌, ◌≢◌, ◌⊎◌, inl, inr, ℕ, ◌+◌, ◌-◌, ◌<◌, ◌==◌, ◌&&◌, cond, true, false, List, ◌++◌, length, take, drop, Option, Some, None, refl, sym, ap, ◌∙◌, arith, subst}
+use Rattle.std.proofs.Common.{◌≡◌, ◌≢◌, ◌⊎◌, inl, inr, ℕ, ◌+◌, ◌-◌, ◌<◌, ◌==◌, ◌&&◌, cond, Bool, true, false, List, ◌++◌, length, take, drop, Option, Some, None, refl, sym, ap, ◌∙◌, arith, subst, append_assoc}
 use Rattle.std.specs.Prelude.{All, codes}
 use Rattle.std.specs.Option.{option_and_then}
 use Rattle.memchr.specs.Find.{occurs_at}
@@ -23,7 +23,9 @@ use Rattle.ap_check.specs.Inputs.{Taken, Meets}
 use Rattle.ap_layout.specs.Positions.{Positions, PlacedInput, Fits, only_inputs, placed_inputs}
 use Rattle.ap_script.specs.Script.{header_for}
 use Rattle.ap_script.specs.Delimiter.{delimiter_number}
-use Rattle.ap_script.specs.Blocks.{opening, body_of, block_of}
+use Rattle.ap_check.specs.Options.{for_windows}
+use Rattle.ap_pe.specs.Linked.{headers_place}
+use Rattle.ap_script.specs.Blocks.{magic_line, opening_line, opening, body_of, block_of}
 use Rattle.ap_script.specs.Stands.{machines_start, statement_place}
 use Rattle.ap_script.proofs.ScriptParts.{IsHeader}
 use Rattle.ap_script.proofs.BlockParts.{behind_body, front-parts}
@@ -31,14 +33,21 @@ use Rattle.ap_script.proofs.StatementPlaces.{contained, opens-places, opens-bloc
 use Rattle.ap_script.proofs.InputStatements.{none-for, header-says, places-order, embeds-block}
 
 -- the magic
-opening-magic : (number : ℕ) (rest : List ℕ) → has_magic (opening number ++ rest) ≡ true
+magic-front : (w d : Bool) (rest : List ℕ) → has_magic (((cond w (codes "MZqFpD='") (cond d (codes "APEDBG='") (codes "jartsr='"))) ++ codes "\n") ++ rest) ≡ true
+magic-front true d rest = refl
+magic-front false true rest = refl
+magic-front false false rest = refl
+
+opening-magic : (options : Options) (number : ℕ) (rest : List ℕ) → has_magic (opening options number ++ rest) ≡ true
 unfolding opening
-opening-magic number rest = refl
+opening-magic options number rest =
+    let line = zeros 51 ++ (headers_place options ++ opening_line number) in
+    ap has_magic (append_assoc (magic_line options) line rest) ∙ magic-front (for_windows options) options.debug (line ++ rest)
 
 pub block-magic : (options : Options) (inputs : List Taken) (l : Positions) (rest : List ℕ) → has_magic (block_of options inputs l ++ rest) ≡ true
 block-magic options inputs l rest =
     ap has_magic (front-parts options inputs l rest)
-    ∙ opening-magic (delimiter_number (body_of options inputs l)) ((body_of options inputs l ++ behind_body options inputs l) ++ (zeros (BLOCK - WINDOW) ++ rest))
+    ∙ opening-magic options (delimiter_number (body_of options inputs l)) ((body_of options inputs l ++ behind_body options inputs l) ++ (zeros (BLOCK - WINDOW) ++ rest))
 
 -- a machine's statement as a loader for a machine of a number reads it
 begins-by : (m : Machine) (header : List ℕ) (n : ℕ) → IsHeader m header → begins_header n header ≡ (number_of m == n)

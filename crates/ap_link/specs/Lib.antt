@@ -5,8 +5,8 @@ pub mod Sources
 pub mod Same
 pub mod LinkedIn
 pub mod Images
+pub mod PeImages
 pub mod Answers
 pub mod FileAnswers
 pub mod Lent
 pub mod Held
-pub mod PeImages

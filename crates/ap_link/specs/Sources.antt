@@ -1,11 +1,13 @@
 -- One or two inputs of files, as they were taken.
-use Rattle.std.specs.Prelude.{◌≡◌, ◌≢◌, ℕ, List, IfSome, Option, Some, None}
+use Rattle.std.specs.Prelude.{◌≡◌, ◌≢◌, ℕ, if◌then◌else◌, List, IfSome, Option, Some, None}
 use Rattle.ap_fields.specs.Bytes.{listed}
 use Rattle.ap_fields.specs.Readings.{bytes_in}
 use Rattle.ap_files.specs.Files.{FileMap, told_bytes}
 use Rattle.ap_files.specs.Reads.{HasFile, HasSize}
 use Rattle.ap_files.specs.declared.failure.FileFault.{FileFault}
 use Rattle.ap_files.specs.declared.failure.FileFault.TheVariants as file
+use Rattle.ap_elf.specs.declared.machine.Machine.TheVariants.{X64}
+use Rattle.ap_elf.specs.Machines.{is_machine}
 use Rattle.ap_check.specs.declared.end.CheckEnd.{CheckEnd}
 use Rattle.ap_check.specs.declared.end.CheckEnd.TheVariants as check
 use Rattle.ap_check.specs.declared.options.Options.{Options}
@@ -30,6 +32,11 @@ abbrev pub second_bytes : Option Source → Option (List ℕ) → Option (Taken 
 second_bytes None b = None
 second_bytes (Some s) None = None
 second_bytes (Some s) (Some b) = Some (s.input.now, b)
+
+-- the name of the file of the input for x86-64, of one or two inputs; that of either where there is none
+abbrev pub x64_name : Source → Option Source → List ℕ
+x64_name first None = first.name.now
+x64_name first (Some s) = if is_machine X64 first.input.now.machine then first.name.now else s.name.now
 
 -- the bytes of the second input's file, and none where files aren't told
 abbrev pub second_told : Option FileMap → Option (List ℕ) → Option (List ℕ)

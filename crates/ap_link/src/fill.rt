@@ -11,6 +11,7 @@ ghost use Rattle.ap_layout.specs.Jobs.{job_inputs};
 use ap_check::Job;
 use ap_claims::{Block, Clash};
 use ap_layout::Layout;
+use ap_pe::write_pe;
 use ap_script::{write_script, write_tables};
 
 /// Fills a free block for a job whose parts have these places. No two claims clash.
@@ -33,6 +34,7 @@ fn write(block: &mut Block, job: &Job<'_>, lay: &Layout) -> Result<(), Clash>
     ensures { Makes block.old block.new (block_claims job.now.options (job_inputs job.now) lay.now)
         result }
 {
+    write_pe(block, job, lay)?;
     write_tables(block, job, lay)?;
     write_script(block, job, lay)
 }

@@ -136,6 +136,14 @@ is-program e areas meets windows same places =
       to = start.1;
     }
 
+-- where it starts
+pub entry-within : (e : Taken) → Meets e → MeetsWindows e → (base_of e ≤ pe_entry_of e) × (pe_entry_of e < last_stop 4096 0 e.loads)
+entry-within e meets windows =
+    let behind = is-behind e meets windows in
+    let start = start-within e.size (base_of e + 8192) (pe_entry_of e) e.loads behind.loads windows.entry in
+    let from = start.0 in
+    (omega arith, subst (λ n. pe_entry_of e < n) (stop-same (base_of e + 8192) 0 e.loads meets.some) start.1)
+
 pub program-is : (e : Taken) (base : ℕ) (p : Program) (loads : List Load) (areas : List Area) → p ≡ program_of e → loads ≡ e.loads → Meets e → IsReady base e → length areas ≡ length e.loads
     → All (λ x. x.file < FILE_TOP) areas → IsProgram p loads areas
 program-is e base p loads areas is loads_are meets ready same places =

@@ -8,6 +8,7 @@ use Rattle.ap_elf.specs.declared.machine.Machine.{Machine}
 use Rattle.ap_elf.specs.declared.machine.Machine.TheVariants.{X64, A64}
 use Rattle.ap_check.specs.Inputs.{Taken}
 use Rattle.ap_layout.specs.Positions.{Positions, PlacedInput, Fits, only_inputs, placed_inputs}
+use Rattle.ap_layout.specs.Jobs.{placed_for}
 use Rattle.ap_script.specs.Tables.{embedded_bytes}
 use Rattle.ap_elf.specs.Machines.{is_machine}
 use Rattle.ap_script.specs.Script.{machine_start, machine_end, machine_lines, header_for}
@@ -47,6 +48,21 @@ header_of-input (p ∷ ps) q differ (inr later) =
 pub header_for-input : (options : Options) (inputs : List Taken) (l : Positions) (p : PlacedInput) → MachinesDiffer inputs → Fits options inputs l → IsOneOf p (placed_inputs inputs l)
     → header_for p.input.machine (placed_inputs inputs l) ≡ Some (embedded_bytes p.input p.table)
 header_for-input options inputs l p differ fits has = header_of-input (placed_inputs inputs l) p (subst MachinesDiffer (sym fits.all) differ) has
+
+-- and so is the input itself
+placed_of-input : (ps : List PlacedInput) (q : PlacedInput) → MachinesDiffer (only_inputs ps) → IsOneOf q ps → placed_for q.input.machine ps ≡ Some q
+placed_of-input [] q differ has = absurd has
+placed_of-input (p ∷ ps) q differ (inl is) =
+    ap (λ (x : PlacedInput). placed_for x.input.machine (p ∷ ps)) (sym is)
+    ∙ ap (λ b. cond b (Some p) (placed_for p.input.machine ps)) (is_machine-self p.input.machine)
+    ∙ ap Some is
+placed_of-input (p ∷ ps) q differ (inr later) =
+    ap (λ b. cond b (Some p) (placed_for q.input.machine ps)) (is_machine-other q.input.machine p.input.machine (has-apart ps p.input.machine q differ.0 later))
+    ∙ placed_of-input ps q differ.1 later
+
+pub placed_for-input : (options : Options) (inputs : List Taken) (l : Positions) (p : PlacedInput) → MachinesDiffer inputs → Fits options inputs l → IsOneOf p (placed_inputs inputs l)
+    → placed_for p.input.machine (placed_inputs inputs l) ≡ Some p
+placed_for-input options inputs l p differ fits has = placed_of-input (placed_inputs inputs l) p (subst MachinesDiffer (sym fits.all) differ) has
 
 pub none-for : (m : Machine) (ps : List PlacedInput) → All (λ e. m ≢ e.machine) (only_inputs ps) → header_for m ps ≡ None
 none-for m [] apart = refl

@@ -1,20 +1,36 @@
-use Rattle.ap_layout.specs.Positions.{placed_inputs}
-use Rattle.std.proofs.Common.{rules}
+use Rattle.std.proofs.Common.{rules, ◌++◌}
 use Rattle.ap_claims.proofs.Writers.{stopped-writer, next-writer}
-use Rattle.ap_script.specs.Claims.{table_claims, script_claims}
+use Rattle.ap_layout.specs.Positions.{placed_inputs}
 use Rattle.ap_layout.specs.Jobs.{job_inputs}
+use Rattle.ap_pe.specs.Linked.{windows_claims}
+use Rattle.ap_script.specs.Claims.{table_claims, script_claims}
 use Rattle.ap_link.proofs.fill.write.Goals as goal
+
+pub returns-in_err-write_pe : goal.returns-in_err-write_pe
+returns-in_err-write_pe c =
+    let options = c.args.job.now.options in
+    let inputs = job_inputs c.args.job.now in
+    let l = c.args.lay.now in
+    stopped-writer (windows_claims options inputs l) (table_claims (placed_inputs inputs l) ++ script_claims options inputs l) c.args.block.now c.write_pe.new.block c.write_pe.result c.from_residual.result
+    c.in_err-write_pe.field-0.0 c.write_pe.ensures c.in_err-write_pe.was (search rules)
 
 pub returns-in_err-write_tables : goal.returns-in_err-write_tables
 returns-in_err-write_tables c =
+    let options = c.args.job.now.options in
     let inputs = job_inputs c.args.job.now in
     let l = c.args.lay.now in
-    stopped-writer (table_claims (placed_inputs inputs l)) (script_claims c.args.job.now.options inputs l) c.args.block.now c.write_tables.new.block c.write_tables.result c.from_residual.result
-    c.in_err-write_tables.field-0.0 c.write_tables.ensures c.in_err-write_tables.was (search rules)
+    let R = c.from_residual-in_err-write_tables.result in
+    next-writer (windows_claims options inputs l) (table_claims (placed_inputs inputs l) ++ script_claims options inputs l) c.args.block.now c.write_pe.new.block c.write_tables.new.block c.write_pe.result R
+    c.in_ok-write_pe.field-0 c.write_pe.ensures c.in_ok-write_pe.was
+    (stopped-writer (table_claims (placed_inputs inputs l)) (script_claims options inputs l) c.write_pe.new.block c.write_tables.new.block c.write_tables.result R
+    c.in_err-write_tables.field-0.0 c.write_tables.ensures c.in_err-write_tables.was (search rules))
 
 pub returns : goal.returns
 returns c =
+    let options = c.args.job.now.options in
     let inputs = job_inputs c.args.job.now in
     let l = c.args.lay.now in
-    next-writer (table_claims (placed_inputs inputs l)) (script_claims c.args.job.now.options inputs l) c.args.block.now c.write_tables.new.block c.write_script.new.block c.write_tables.result c.write_script.result
-    c.in_ok-write_tables.field-0 c.write_tables.ensures c.in_ok-write_tables.was c.write_script.ensures
+    next-writer (windows_claims options inputs l) (table_claims (placed_inputs inputs l) ++ script_claims options inputs l) c.args.block.now c.write_pe.new.block c.write_script.new.block c.write_pe.result c.write_script.result
+    c.in_ok-write_pe.field-0 c.write_pe.ensures c.in_ok-write_pe.was
+    (next-writer (table_claims (placed_inputs inputs l)) (script_claims options inputs l) c.write_pe.new.block c.write_tables.new.block c.write_script.new.block c.write_tables.result c.write_script.result
+    c.in_ok-write_tables.field-0 c.write_tables.ensures c.in_ok-write_tables.was c.write_script.ensures)
