@@ -244,3 +244,25 @@ fn a_byte_that_is_not_read_leaves_the_walk(rt: HostRuntime) {
         assert!(rt; Walk::new(BASE, TABLE, None).ending(&mut cells) == Err(Failed));
     }
 }
+
+#[test]
+fn imports_have_their_names(rt: HostRuntime) {
+    let plan = plan();
+    let file = directory(&rt, &[]);
+    let mut cells = PlanCells {
+        plan: &plan,
+        file: &file,
+    };
+    let Ok(found) = list_imports(rt.alloc(), Walk::new(BASE, TABLE, None), &mut cells) else {
+        panic!(rt; "a list of two");
+    };
+    let [first, second] = found.as_slice() else {
+        panic!(rt; "two");
+    };
+    assert!(rt; first.dll.as_slice() == b"KERNEL32.dll".as_slice() && first.slot == 0x403080);
+    assert!(rt;
+        matches!(&first.what, Wanted::Name { name } if name.as_slice() == b"ExitProcess".as_slice())
+    );
+    assert!(rt; second.dll.as_slice() == b"WS2_32.dll".as_slice() && second.slot == 0x403090);
+    assert!(rt; matches!(&second.what, Wanted::Ordinal { number } if *number == 115));
+}
