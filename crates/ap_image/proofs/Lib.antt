@@ -1,5 +1,6 @@
 pub mod Fetching
 pub mod ImportNames
+pub mod ImportLists
 pub mod WalkLemmas
 pub mod ShownBytes
 pub mod RegionBytes

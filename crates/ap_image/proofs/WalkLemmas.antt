@@ -11,7 +11,7 @@ use Rattle.ap_image.specs.declared.import_place.Found.{Found}
 use Rattle.ap_image.specs.Cells.{Memory, CellsState}
 use Rattle.ap_image.specs.ImportWalk.{Items, after, found, name_of, named_item, ended, end_at, with_item, items_by, items_from}
 use Rattle.ap_image.specs.declared.import_step.WalkEnd.{WalkEnd}
-use Rattle.ap_image.specs.WalkSteps.{Fetches, Walking, left_by, left_of, taken, next_of, Steps, Ends, Gives}
+use Rattle.ap_image.specs.WalkSteps.{IsNear, Fetches, Walking, left_by, left_of, taken, next_of, Steps, Ends, Gives}
 use Rattle.ap_image.specs.WalkBounds.{IsFound, IsItem, IsWalking}
 
 some_item : (x item : Found) (q : Result (List ℕ) WalkFault) (rest : Place → Items) → after q (λ name. Ok (Some x)) ≡ Ok (Some item) → named_item x.step q (rest x.next) ≡ with_item item.step (rest item.next)
@@ -78,15 +78,16 @@ open_walk m w e = ap (left_by m w) e
 moved : Walking → Found → Walking
 moved w item = record { base = w.base; end = w.end; place = item.next; left = w.left - 1; over = w.over }
 
-gives : (s : CellsState) (w : Walking) (item : Found) → w.over ≡ None → 0 < w.left → ((m : Memory) → s.told ≡ Some m → next_of m w ≡ Ok (Some item)) → Gives s w (moved w item) item.step
+gives : (s : CellsState) (w : Walking) (item : Found) → w.over ≡ None → 0 < w.left → IsNear item.step → ((m : Memory) → s.told ≡ Some m → next_of m w ≡ Ok (Some item)) → Gives s w (moved w item) item.step
 unfolding moved
-gives s w item e l h = record {
+gives s w item e l near h = record {
   told = λ m t.
       let one : w.left ≡ suc (w.left - 1) = omega arith in
       open_walk m w e ∙ ap (items_from m w.base w.end w.place) one
       ∙ left-item m w.base w.end w.place (w.left - 1) item (ap (λ k. after (found m w.base w.end w.place.entry w.place.word) (λ o. taken m k o)) (sym one) ∙ h m t)
       ∙ ap (with_item item.step) (sym (open_walk m (moved w item) e));
   fewer = omega arith;
+  near = near;
 }
 
 step-of : (old new : CellsState) (w next : Walking) (step : Step) → IsItem step → new ≡ old → Gives old w next step → Steps old new w next (Ok step)
@@ -98,7 +99,7 @@ pub step-item : (old new : CellsState) (w : Walking) (item : Found) → w.over �
     → ((m : Memory) → old.told ≡ Some m → next_of m w ≡ Ok (Some item))
     → Steps old new w (record { base = w.base; end = w.end; place = item.next; left = w.left - 1; over = w.over }) (Ok item.step)
 unfolding moved
-step-item old new w item e l i same h = step-of old new w (moved w item) item.step i.step same (gives old w item e l h)
+step-item old new w item e l i same h = step-of old new w (moved w item) item.step i.step same (gives old w item e l i.near h)
 
 pub step-done : (old new : CellsState) (w : Walking) → w.over ≡ None → new ≡ old → ((m : Memory) → old.told ≡ Some m → next_of m w ≡ Ok None)
     → (new ≡ old) × Ends old w (record w { over = Some end.Done }) end.Done

@@ -107,8 +107,7 @@ name_of memory Done = Ok []
 
 -- that something is read
 abbrev pub passed : {T : Type 0} → Result T WalkFault → Result (Unit {0}) WalkFault
-passed (Ok x) = Ok tt
-passed (Err f) = Err f
+passed r = after r (λ x. Ok tt)
 
 -- the items, and how they end
 pub record Items : Type 0 where

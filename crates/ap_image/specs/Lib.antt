@@ -7,3 +7,4 @@ pub mod ImportWalk
 pub mod WalkSteps
 pub mod WalkBounds
 pub mod PlanCells
+pub mod Imports

@@ -3,18 +3,10 @@ use Rattle.std.specs.Prelude.{◌≡◌, ℕ, ◌+◌, ◌*◌, ◌^◌, ◌≤�
 use Rattle.std.specs.Option.{ForSome}
 use Rattle.ap_image.specs.declared.import_step.Step.{Step}
 use Rattle.ap_image.specs.declared.import_step.Step.TheVariants.{Entry, Word, Done}
-use Rattle.ap_image.specs.declared.import_step.What.TheVariants.{Name, Ordinal}
 use Rattle.ap_image.specs.declared.import_place.Place.{Place}
 use Rattle.ap_image.specs.declared.import_place.Found.{Found}
-use Rattle.ap_image.specs.declared.import_place.TheConstants.{ENTRY_SIZE, WORD_SIZE, HINT_SIZE, MOST_ITEMS}
-use Rattle.ap_image.specs.WalkSteps.{Walking}
-
--- the name of an item, and its hint
-abbrev pub IsNear : Step → Type 0
-IsNear (Entry dll) = dll ≤ 2 ^ 62
-IsNear (Word (Name at) slot) = (HINT_SIZE ≤ at) × (at ≤ 2 ^ 62)
-IsNear (Word (Ordinal number) slot) = Unit {0}
-IsNear Done = Unit {0}
+use Rattle.ap_image.specs.declared.import_place.TheConstants.{ENTRY_SIZE, WORD_SIZE, MOST_ITEMS}
+use Rattle.ap_image.specs.WalkSteps.{Walking, IsNear}
 
 -- it is an item
 abbrev pub IsItem : Step → Type 0

@@ -1,14 +1,16 @@
 -- What a step of an import walk leaves and tells.
-use Rattle.std.specs.Prelude.{◌≡◌, ℕ, zero, suc, ◌+◌, Option, Some, None, Result, Ok, Err}
+use Rattle.std.specs.Prelude.{◌≡◌, ℕ, zero, suc, ◌+◌, Option, Some, None, Result, Ok, Err, ◌≤◌, ◌^◌}
 use Rattle.ap_image.specs.Cells.{Memory, CellsState, Unreadable}
 use Rattle.ap_image.specs.declared.import_step.Step.{Step}
 use Rattle.ap_image.specs.declared.import_step.Step.TheVariants.{Entry, Word, Done}
+use Rattle.ap_image.specs.declared.import_step.What.TheVariants.{Name, Ordinal}
 use Rattle.ap_image.specs.declared.import_step.WalkFault.{WalkFault}
 use Rattle.ap_image.specs.declared.import_step.Ending.{Ending}
 use Rattle.ap_image.specs.declared.import_step.Ending.TheVariants as end
 use Rattle.ap_image.specs.declared.import_step.WalkEnd.{WalkEnd}
 use Rattle.ap_image.specs.declared.import_step.WalkEnd.TheVariants.{Fault, ReadFault}
 use Rattle.ap_image.specs.declared.import_place.Place.{Place}
+use Rattle.ap_image.specs.declared.import_place.TheConstants.{HINT_SIZE}
 use Rattle.ap_image.specs.declared.import_place.Found.{Found}
 use Rattle.ap_image.specs.declared.import_step.WalkCause.{WalkCause}
 use Rattle.ap_image.specs.declared.import_step.WalkCause.TheVariants.{Many}
@@ -45,10 +47,18 @@ Fetches old new meaning (Ok x) = (new ≡ old) × ((memory : Memory) → old.tol
 Fetches old new meaning (Err (Fault f)) = (new ≡ old) × ((memory : Memory) → old.told ≡ Some memory → meaning memory ≡ Err f)
 Fetches old new meaning (Err ReadFault) = Unreadable old new
 
+-- the addresses of an item's name, and of its hint, are far below 2^64
+abbrev pub IsNear : Step → Type 0
+IsNear (Entry dll) = dll ≤ 2 ^ 62
+IsNear (Word (Name at) slot) = (HINT_SIZE ≤ at) × (at ≤ 2 ^ 62)
+IsNear (Word (Ordinal number) slot) = Unit {0}
+IsNear Done = Unit {0}
+
 -- the first of what is left, and then the rest
 pub record Gives (old : CellsState) (walk next : Walking) (step : Step) : Type 0 where
   pub told : (memory : Memory) → old.told ≡ Some memory → left_of memory walk ≡ with_item step (left_of memory next)
   pub fewer : next.left + 1 ≡ walk.left
+  pub near : IsNear step
 
 -- nothing is left, and the walk is over
 pub record Ends (old : CellsState) (walk next : Walking) (ending : Ending) : Type 0 where

@@ -2,8 +2,7 @@
 ghost use Rattle.std.specs.Prelude.{◌≡◌, ◌+◌, ◌≤◌, ◌^◌, length};
 ghost use Rattle.ap_image.specs.ImportWalk as spec;
 ghost use Rattle.ap_image.specs.ImportWalk.{bytes_from, name_at, name_of, passed};
-ghost use Rattle.ap_image.specs.WalkBounds.{IsNear};
-ghost use Rattle.ap_image.specs.WalkSteps.{Fetches};
+ghost use Rattle.ap_image.specs.WalkSteps.{IsNear, Fetches};
 
 use crate::by_address::Cells;
 use crate::import_place::{DirectoryEntry, ENTRY_SIZE, HINT_SIZE, MOST_NAME, WORD_SIZE};
@@ -53,8 +52,8 @@ fn bytes_at<const N: usize, C: Cells>(cells: &mut C, at: u64) -> Result<[u8; N],
     Ok(bytes)
 }
 
-// The byte at an address.
-fn byte_at<C: Cells>(cells: &mut C, a: u64) -> Result<u8, WalkEnd>
+/// The byte at an address.
+pub(crate) fn byte_at<C: Cells>(cells: &mut C, a: u64) -> Result<u8, WalkEnd>
     ensures { Fetches (C.state cells.old) (C.state cells.new) (λ memory. spec.byte_at memory a) result }
 {
     match cells.byte(a) {

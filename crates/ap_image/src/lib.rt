@@ -13,11 +13,17 @@ mod import_step; // what a walk of an import directory gives
 mod import_place; // where it stands
 mod import_read; // what it reads
 mod walk; // the walk
+mod bytes; // bytes that a value holds
+mod import_item; // imports, with their names
+mod import_list; // the list of them
 
 pub use ap_fields::Perms;
 pub use by_address::Cells;
+pub use bytes::Bytes;
 pub use cells::cell;
 pub use image_file::{DumpFault, address_count, dump};
+pub use import_item::{Import, ImportEnd, Wanted};
+pub use import_list::list_imports;
 pub use import_step::{Ending, Step, WalkCause, WalkEnd, WalkFault, What};
 pub use plan::{MOST_REGIONS, Plan, Region};
 pub use plan_cells::{FileCells, PlanCells};

@@ -4,6 +4,7 @@ mod claims;
 mod disk;
 mod elf;
 mod fields;
+mod imports;
 mod memory;
 mod octal;
 mod pe;

@@ -1,0 +1,11 @@
+use Rattle.std.proofs.Common.{◌≡◌, Some}
+use Rattle.ap_image.specs.Cells.{Memory}
+use Rattle.ap_image.specs.ImportWalk.{name_at}
+use Rattle.ap_image.proofs.ImportNames.{name_left, gathered}
+use Rattle.ap_image.proofs.import_list.read_name.Given as goal
+
+abbrev pub invariant-loop-i : goal.invariant-loop-i
+invariant-loop-i g l = record {
+  state : g.C.Cells.state l.cells ≡ g.C.Cells.state l.fn.cells;
+  left : (m : Memory) → (g.C.Cells.state l.fn.cells).told ≡ Some m → name_at m l.start ≡ name_left m l.start 1025 l.i (gathered l.name.items);
+}
