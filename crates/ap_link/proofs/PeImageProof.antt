@@ -22,9 +22,9 @@ use Rattle.ap_pe.specs.declared.types.PeHeaders.{PeHeaders}
 use Rattle.ap_pe.specs.declared.types.PeSection.{PeSection}
 use Rattle.ap_pe.specs.declared.types.FileHeader.{FileHeader}
 use Rattle.ap_pe.specs.declared.program.Program.{Program}
-use Rattle.ap_pe.specs.Format.{dos_mark, dos_headers, signature, optional_magic, file_header_at, headers_at, headers_of, sections_in}
+use Rattle.ap_pe.specs.Format.{dos_mark, dos_headers, optional_magic, headers_at, headers_of, sections_in}
 use Rattle.ap_pe.specs.Sections.{Named}
-use Rattle.ap_pe.specs.Written.{sections_of, end_of, headers_with}
+use Rattle.ap_pe.specs.Written.{sections_of, headers_with}
 use Rattle.ap_pe.specs.PeReading.{dos_rules, file_rules, optional_rules, rules_at, header_rules, are_alignments, extent_rules, sections_rules, image_rules, mapping_rules, pe_rules, end_behind, pe_cell, pe_reading}
 use Rattle.ap_pe.proofs.HeaderReads.{ProgramFits, HeadersRead, headers-read, written_headers}
 use Rattle.ap_pemap.specs.PePlans.{region_of, headers_region, regions_of}

@@ -5,7 +5,7 @@ use Rattle.std.proofs.lemmas.Bool.Decides.{nat_tests}
 use Rattle.ap_fields.specs.FirstFault.{first_fault}
 use Rattle.ap_fields.specs.Granules.{floor_of, ceil_of}
 use Rattle.ap_check.specs.declared.load.Load.{Load}
-use Rattle.ap_check.specs.Inputs.{IsLoad, is_permitted}
+use Rattle.ap_check.specs.Inputs.{IsLoad}
 use Rattle.ap_image.specs.declared.plan.Region.{Region}
 use Rattle.ap_image.specs.Plans.{end_of}
 use Rattle.ap_layout.specs.declared.layout.Area.{Area}

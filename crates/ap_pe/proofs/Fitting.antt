@@ -1,5 +1,5 @@
 -- Loads that fit behind headers, and how much of the file their sections show.
-use Rattle.std.proofs.Common.{◌≡◌, ℕ, ◌+◌, ◌^◌, ◌<◌, ◌≤◌, List, [], ◌∷◌, length, drop, get_or, refl, subst, arith}
+use Rattle.std.proofs.Common.{ℕ, ◌+◌, ◌^◌, ◌<◌, ◌≤◌, List, [], ◌∷◌, length, drop, get_or, refl, subst, arith}
 use Rattle.std.proofs.lemmas.List.{drop_more}
 use Rattle.ap_fields.specs.Granules.{IsPowerOfTwo, floor_of, ceil_of}
 use Rattle.ap_check.specs.declared.load.Load.{Load}

@@ -1,5 +1,5 @@
 -- Files of equal length that agree where the PE reading looks have the same refusal, or the same headers and sections.
-use Rattle.std.proofs.Common.{◌≡◌, ◌⊎◌, inl, inr, ℕ, zero, suc, ◌+◌, ◌*◌, ◌<◌, ◌≤◌, List, [], ◌∷◌, ◌++◌, length, slice_index, Option, Some, None, Result, refl, sym, ap, ◌∙◌, subst, arith, nat_le, ◌==◌, ◌&&◌}
+use Rattle.std.proofs.Common.{◌≡◌, inl, inr, ℕ, zero, suc, ◌+◌, ◌*◌, ◌<◌, ◌≤◌, List, ◌∷◌, ◌++◌, length, slice_index, Option, Some, None, refl, sym, ap, ◌∙◌, arith}
 use Rattle.std.proofs.lemmas.Bool.Decides.{nat_tests}
 use Rattle.ap_fields.specs.Fields.{number_at}
 use Rattle.ap_fields.specs.Structures.{value_at}
@@ -12,7 +12,7 @@ use Rattle.ap_pe.specs.declared.types.PeSection.{PeSection}
 use Rattle.ap_pe.specs.declared.types.FileHeader.{FileHeader}
 use Rattle.ap_pe.specs.declared.fault.PeFault.{PeFault}
 use Rattle.ap_pe.specs.Format.{dos_mark, dos_headers, optional_magic, file_header_at, headers_by, headers_at, headers_of, section_at, sections_from, sections_in, table_place}
-use Rattle.ap_pe.specs.PeReading.{dos_rules, file_rules, optional_rules, rules_at, header_rules, mapping_rules, pe_rules, pe_cell, pe_reading_by}
+use Rattle.ap_pe.specs.PeReading.{dos_rules, file_rules, optional_rules, rules_at, header_rules, mapping_rules, pe_rules, pe_cell}
 use Rattle.ap_pe.specs.Looks.{Looks, PeReadsAlike}
 
 -- two files agree on a range

@@ -1,5 +1,5 @@
 -- The parts of the headers, each read alone.
-use Rattle.std.proofs.Common.{◌≡◌, ℕ, ◌+◌, ◌≤◌, List, length, take, drop, refl, sym, ap, ◌∙◌, arith}
+use Rattle.std.proofs.Common.{◌≡◌, ℕ, ◌+◌, ◌≤◌, List, take, drop, refl, ap, ◌∙◌, arith}
 use Rattle.ap_fields.specs.Fields.{number_at}
 use Rattle.ap_elf.proofs.EntryTables.{number_at-part}
 use Rattle.ap_pe.specs.declared.types.FileHeader.{FileHeader}

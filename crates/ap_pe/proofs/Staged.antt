@@ -1,5 +1,5 @@
 -- The first refusal of headers, stage by stage, where their parts are read alone.
-use Rattle.std.proofs.Common.{◌≡◌, ℕ, ◌+◌, List, ◌++◌, length, take, drop, Some, None, Option, Result, Ok, Err, sym, ap, ◌∙◌, arith}
+use Rattle.std.proofs.Common.{◌≡◌, ℕ, ◌+◌, List, length, take, drop, Some, None, Ok, Err, sym, ap, ◌∙◌, arith}
 use Rattle.ap_fields.specs.Fields.{number_at}
 use Rattle.ap_fields.specs.Structures.{value_at}
 use Rattle.ap_fields.specs.FirstFault.{Rules, first_fault}
@@ -8,7 +8,7 @@ use Rattle.ap_pe.specs.declared.types.PeHeaders.{PeHeaders}
 use Rattle.ap_pe.specs.declared.types.FileHeader.{FileHeader}
 use Rattle.ap_pe.specs.declared.fault.PeFault.{PeFault}
 use Rattle.ap_pe.specs.Format.{dos_mark, dos_headers, optional_magic, file_header_at, headers_by, headers_at}
-use Rattle.ap_pe.specs.PeReading.{dos_rules, file_rules, optional_rules, rules_at, header_rules, headers_unless, headers_result}
+use Rattle.ap_pe.specs.PeReading.{dos_rules, file_rules, optional_rules, rules_at, headers_unless, headers_result}
 use Rattle.ap_pe.specs.Stages.{result_at, optional_result}
 use Rattle.ap_pe.proofs.PartReads.{number-read, file-read, optional-read}
 

@@ -1,6 +1,6 @@
 -- The sections that the linker writes: one for each load, and one of zeros for each gap before a load, so that each section
 -- begins where what is in front of it ends (PE/COFF, "Section Table").
-use Rattle.std.specs.Prelude.{◌≡◌, ℕ, ◌+◌, ◌-◌, ◌*◌, ◌/◌, ◌%◌, ◌^◌, ◌≤◌, ◌==◌, nat_lt, if◌then◌else◌, List, [], ◌∷◌, ◌++◌, bit_and}
+use Rattle.std.specs.Prelude.{ℕ, ◌+◌, ◌-◌, ◌*◌, ◌/◌, ◌%◌, ◌^◌, ◌≤◌, ◌==◌, nat_lt, if◌then◌else◌, List, [], ◌∷◌, ◌++◌, bit_and}
 use Rattle.ap_fields.specs.Granules.{floor_of, ceil_of}
 use Rattle.ap_fields.specs.Structures.{Rows, structure}
 use Rattle.ap_elf.specs.declared.constants.TheConstants.{PF_X, PF_W}

@@ -1,5 +1,5 @@
 -- The headers that the linker writes: the DOS fields at the file's start, and the PE headers.
-use Rattle.std.specs.Prelude.{◌≡◌, ℕ, ◌+◌, ◌-◌, ◌^◌, ◌<◌, ◌≤◌, ◌==◌, not, if◌then◌else◌, Bool, List, [], ◌∷◌, ◌++◌, length, All, bit_and}
+use Rattle.std.specs.Prelude.{◌≡◌, ℕ, ◌+◌, ◌-◌, ◌<◌, ◌≤◌, ◌==◌, not, if◌then◌else◌, Bool, List, [], ◌∷◌, ◌++◌, length, All, bit_and}
 use Rattle.ap_fields.specs.declared.sizes.TheConstants.{PE_SPAN, MOST_LOADS}
 use Rattle.ap_fields.specs.Structures.{Rows, structure}
 use Rattle.ap_elf.specs.declared.constants.TheConstants.{ADDRESS_TOP}

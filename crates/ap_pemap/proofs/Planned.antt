@@ -1,5 +1,5 @@
 -- The plan of a file of which the headers and the section headers are read by the file's name.
-use Rattle.std.proofs.Common.{◌≡◌, ℕ, ◌<◌, ◌≤◌, List, [], ◌∷◌, ◌++◌, length, map, Option, Some, None, Result, Ok, Err, refl, sym, ap, ◌∙◌, subst, arith}
+use Rattle.std.proofs.Common.{◌≡◌, ℕ, ◌≤◌, List, [], ◌∷◌, ◌++◌, length, map, Option, Some, None, Result, Ok, Err, refl, sym, ap, ◌∙◌, subst, arith}
 use Rattle.ap_fields.specs.FirstFault.{Rules, first_fault}
 use Rattle.ap_fields.proofs.FirstFaults.{none-append, some-append}
 use Rattle.ap_image.specs.declared.plan.Region.{Region}

@@ -1,5 +1,5 @@
 -- Why the laws of the reading hold: proofs, which nobody has to read.
-use Rattle.std.proofs.Common.{◌≡◌, ℕ, ◌+◌, ◌-◌, ◌%◌, ◌^◌, ◌<◌, ◌≤◌, Bool, true, false, not, if◌then◌else◌, nat_lt, ◌==◌, ◌&&◌, min, List, [], ◌∷◌, ◌++◌, length, map, Option, Some, None, refl, sym, ap, ◌∙◌, subst, arith, inl, inr}
+use Rattle.std.proofs.Common.{◌≡◌, ℕ, ◌+◌, ◌-◌, ◌%◌, ◌^◌, ◌<◌, ◌≤◌, Bool, true, false, not, if◌then◌else◌, nat_lt, ◌==◌, ◌&&◌, min, List, [], ◌∷◌, ◌++◌, length, map, Option, Some, None, refl, ap, ◌∙◌, subst, arith, inl, inr}
 use Rattle.std.proofs.lemmas.Bool.{cases_Bool}
 use Rattle.std.proofs.lemmas.Bool.Decides.{nat_tests}
 use Rattle.std.proofs.lemmas.Nat.{div-add-mod'}
@@ -14,7 +14,7 @@ use Rattle.ap_pe.specs.declared.types.PeHeaders.{PeHeaders}
 use Rattle.ap_pe.specs.declared.types.PeSection.{PeSection}
 use Rattle.ap_pe.specs.declared.fault.PeFault.{PeFault}
 use Rattle.ap_pe.specs.Format.{headers_of, sections_in}
-use Rattle.ap_pe.specs.PeReading.{dos_rules, file_rules, optional_rules, header_rules, extent_rules, section_rules, sections_rules, image_rules, mapping_rules, pe_rules, extent_of, headers_extent, end_behind, permissions_of, is_within, section_byte, section_cell, pe_cell, pe_reading}
+use Rattle.ap_pe.specs.PeReading.{header_rules, extent_rules, section_rules, sections_rules, image_rules, mapping_rules, pe_rules, extent_of, headers_extent, end_behind, permissions_of, is_within, section_byte, section_cell, pe_cell, pe_reading}
 use Rattle.ap_pe.specs.Looks.{Looks}
 use Rattle.ap_pe.proofs.Framed.{are-alike, align-taken}
 use Rattle.ap_pemap.specs.PePlans.{region_of, headers_region, regions_of, mapping_of, pe_plan}

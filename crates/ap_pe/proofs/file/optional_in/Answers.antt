@@ -1,4 +1,4 @@
-use Rattle.std.proofs.Common.{◌+◌, ap, arith}
+use Rattle.std.proofs.Common.{ap, arith}
 use Rattle.ap_files.proofs.ReadLemmas.{same_state, told_of}
 use Rattle.ap_pe.specs.declared.types.PeHeaders.{PeHeaders}
 use Rattle.ap_pe.proofs.Staged.{optional-none, optional-some}

@@ -1,4 +1,4 @@
-use Rattle.std.proofs.Common.{◌≡◌, ◌+◌, ◌*◌, ◌^◌, ◌≤◌, ◌++◌, length, drop}
+use Rattle.std.proofs.Common.{◌≡◌, ◌+◌, ◌*◌, ◌≤◌, ◌++◌, length, drop}
 use Rattle.ap_pe.specs.Sections.{Fit, sections_behind}
 use Rattle.ap_pe.specs.Written.{sections_of, end_of}
 use Rattle.ap_check.specs.Inputs.{last_stop}

@@ -1,5 +1,4 @@
-use Rattle.std.proofs.Common.{rules, ◌≡◌, List, [], ◌∷◌}
-use Rattle.ap_image.specs.declared.plan.Region.{Region}
+use Rattle.std.proofs.Common.{◌≡◌, [], ◌∷◌}
 use Rattle.ap_pemap.specs.PePlans.{headers_region}
 use Rattle.ap_pemap.proofs.Planned.{planned-good}
 use Rattle.ap_pemap.proofs.plan.plan_by.Goals as goal
