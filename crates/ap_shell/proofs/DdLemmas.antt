@@ -1,12 +1,7 @@
 -- One block of a `dd`, and the operands' names.
-use Rattle.std.proofs.Common.{◌≡◌, ◌∙◌, ap, sym, refl, ℕ, suc, ◌+◌, ◌-◌, ◌*◌, ◌<◌, List, [], ◌∷◌, length, take, drop, Bool, false, cond, arith}
-use Rattle.std.proofs.lemmas.List.{length-take}
-use Rattle.std.proofs.lemmas.Slice.Eq.{bytes_eq-Decides}
+use Rattle.std.proofs.Common.{◌≡◌, ◌∙◌, ap, sym, refl, ℕ, suc, ◌+◌, ◌-◌, ◌*◌, ◌<◌, List, [], ◌∷◌, length, take, drop, Bool, cond, arith}
 use Rattle.ap_fields.specs.Fields.{patched}
 use Rattle.ap_octal.specs.DdEffect.{blocks_copied, unless_empty}
-use Rattle.ap_shell.specs.Files.{Text}
-use Rattle.ap_shell.proofs.TextLemmas.{false_by}
-use Rattle.ap_shell.specs.DdCommand.{is_front}
 
 goes_on : (bytes output : List ℕ) (next : List ℕ → List ℕ) → 0 < length bytes → unless_empty bytes output next ≡ next bytes
 goes_on [] output next some = absurd (omega (arith, some))
@@ -37,11 +32,3 @@ block_none itself size skip n i from input output block below at is none =
     ap (λ k. blocks_copied itself size skip k i input output) left
     ∙ ap (λ b. unless_empty b output next) read
     ∙ stops block output next none
-
--- a name that is longer than a word isn't its front
-pub longer_front : (name word : Text) → length word < length name → is_front name word ≡ false
-longer_front name word longer =
-    false_by (is_front name word) (λ is.
-    let same : take (length name) word ≡ name = (bytes_eq-Decides (take (length name) word) name).0 is in
-    let long = length-take (length name) word in
-    absurd (omega (arith, longer, long, ap length same)))

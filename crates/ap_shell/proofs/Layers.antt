@@ -1,4 +1,5 @@
--- The meaning of a construct, by the meanings of its parts.
+-- The meaning of a construct, by the meanings of its parts: the equations of the folds, as a tree is written out (`_is` and
+-- `_at`), and as code opens it (`_out`).
 use Rattle.std.proofs.Common.{◌≡◌, ◌∙◌, ap, sym, ℕ, List, Bool, false, map}
 use Rattle.ap_shell.specs.Files.{Text}
 use Rattle.ap_shell.specs.Steps.{Action}

@@ -1,4 +1,4 @@
-mod Layers
+pub mod Layers
 mod MapLemmas
 mod Carried
 mod ListTurns

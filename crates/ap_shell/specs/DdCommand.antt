@@ -7,7 +7,7 @@ use Rattle.ap_octal.specs.DdPlace.{short_number}
 use Rattle.ap_shell.specs.Files.{Text}
 use Rattle.ap_shell.specs.Places.{bytes_or_none, file_at, mode_or, with_file}
 use Rattle.ap_shell.specs.Ends.{Leaves, plain}
-use Rattle.ap_shell.specs.declared.dd.Blocks.{Blocks}
+use Rattle.ap_shell.specs.declared.operands.Blocks.{Blocks}
 use Rattle.ap_shell.specs.declared.map.HostFile.{HostFile}
 
 abbrev pub is_front : Text → Text → Bool

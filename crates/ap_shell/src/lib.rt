@@ -10,6 +10,8 @@ mod done; // how a command ends
 mod copies; // copies of texts
 mod places; // files by their names
 mod copy_commands; // `cp` and `chmod`
+mod operands; // the operands of `dd`
+mod copying; // the blocks that `dd` copies
 mod dd; // `dd`
 mod text_commands; // `uname`, `printf`, `command` and `[`
 mod exits; // `exit` and `exec`

@@ -1,4 +1,4 @@
-//! Tests of the shell grammar.
+//! Tests of the shell: the grammar, the meaning of scripts, and the `dd` statement of a file.
 #![tactic(auto)]
 
 #[cfg(test)]

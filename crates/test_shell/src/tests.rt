@@ -1,5 +1,7 @@
 // Which texts are scripts, and which script each is, as `show` writes it.
+mod shell;
 mod show;
+mod statements;
 
 use ap_shparse::{Nul, ShellFault, parse};
 use show::show;
@@ -31,18 +33,38 @@ const ROWS: [Row; 79] = [
     (b": # a\0b\n: 'a\0b'", Nul::Drop, b"<':'>;<':'><'ab'>;"),
     (b"x=${a:-\0}", Nul::Keep, b"outside 0"),
     (b"x=\"${a:-\0}\"", Nul::Keep, b"x=<${a:-\0}> ;"),
-    (b": <<'E'\na\0E\n\0E\nE\n", Nul::Keep, b"<':'>0<<'a\0E\n\0E\n' ;"),
-    (b": <<'E'\na\0E\n\0E\nE\n", Nul::Drop, b"<':'>0<<'aE\n' ;<'E'>;"),
+    (
+        b": <<'E'\na\0E\n\0E\nE\n",
+        Nul::Keep,
+        b"<':'>0<<'a\0E\n\0E\n' ;",
+    ),
+    (
+        b": <<'E'\na\0E\n\0E\nE\n",
+        Nul::Drop,
+        b"<':'>0<<'aE\n' ;<'E'>;",
+    ),
     // AND-OR lists
     (b"a ||", Nul::Keep, b"outside 0"),
     (b"a || b && c", Nul::Keep, b"<'a'>||<'b'>&&<'c'>;"),
-    (b"false ||\n\n # c\n exit 4\n", Nul::Keep, b"<'false'>||<'exit'><'4'>;"),
+    (
+        b"false ||\n\n # c\n exit 4\n",
+        Nul::Keep,
+        b"<'false'>||<'exit'><'4'>;",
+    ),
     (b"a & b", Nul::Keep, b"outside 0"),
     (b"a\nb ||| c", Nul::Keep, b"outside 2"),
     // if
     (b"if true\n", Nul::Keep, b"outside 0"),
-    (b"if a; then b; fi", Nul::Keep, b"if <'a'>;then <'b'>;else fi;"),
-    (b"if a\nthen b; c\nelse d || e; fi && f\n", Nul::Keep, b"if <'a'>;then <'b'>;<'c'>;else <'d'>||<'e'>;fi&&<'f'>;"),
+    (
+        b"if a; then b; fi",
+        Nul::Keep,
+        b"if <'a'>;then <'b'>;else fi;",
+    ),
+    (
+        b"if a\nthen b; c\nelse d || e; fi && f\n",
+        Nul::Keep,
+        b"if <'a'>;then <'b'>;<'c'>;else <'d'>||<'e'>;fi&&<'f'>;",
+    ),
     (b"if a; then fi", Nul::Keep, b"outside 0"),
     (b"if a; then b fi", Nul::Keep, b"outside 0"),
     (b"then", Nul::Keep, b"outside 0"),
@@ -66,37 +88,69 @@ const ROWS: [Row; 79] = [
     (b"\"$@\" \"$@\"", Nul::Keep, b"<@><@>;"),
     (b"a\"$@\"", Nul::Keep, b"outside 0"),
     // expansions
-    (b": \"a$b${c}$0$$0${d:-e f}g\"", Nul::Keep, b"<':'><'a'$b$c$0$$'0'${d:-e f}'g'>;"),
-    (b"x=$00 y={ z=!a w=#b v=", Nul::Keep, b"x=<$0'0'> y=<'{'> z=<'!a'> w=<'#b'> v=<> ;"),
+    (
+        b": \"a$b${c}$0$$0${d:-e f}g\"",
+        Nul::Keep,
+        b"<':'><'a'$b$c$0$$'0'${d:-e f}'g'>;",
+    ),
+    (
+        b"x=$00 y={ z=!a w=#b v=",
+        Nul::Keep,
+        b"x=<$0'0'> y=<'{'> z=<'!a'> w=<'#b'> v=<> ;",
+    ),
     (b"x=\"$1\"\n", Nul::Keep, b"outside 0"),
     (b"x=[", Nul::Keep, b"outside 0"),
     (b"x=a~", Nul::Keep, b"outside 0"),
     (b"x=\"$@\"", Nul::Keep, b"outside 0"),
-    (b"x=$(a \"$y\" >f)b", Nul::Keep, b"x=<$(<'a'><$y>1><'f'> )'b'> ;"),
+    (
+        b"x=$(a \"$y\" >f)b",
+        Nul::Keep,
+        b"x=<$(<'a'><$y>1><'f'> )'b'> ;",
+    ),
     (b"x=$(: # c\n)\n", Nul::Keep, b"outside 0"),
     (b"x=\"$(a \"$(b)\")\"", Nul::Keep, b"outside 0"),
     (b"x=$( exit )", Nul::Keep, b"outside 0"),
     (b"x=$(\"exit\" 3)", Nul::Keep, b"x=<$(<'exit'><'3'>)> ;"),
     // redirections
     (b": >>f\n", Nul::Keep, b"outside 0"),
-    (b": 2>a <b 1<> c >&2 2>& 1", Nul::Keep, b"<':'>2><'a'> 0<<'b'> 1<><'c'> 1>&2 2>&1 ;"),
+    (
+        b": 2>a <b 1<> c >&2 2>& 1",
+        Nul::Keep,
+        b"<':'>2><'a'> 0<<'b'> 1<><'c'> 1>&2 2>&1 ;",
+    ),
     (b": 3>a", Nul::Keep, b"outside 0"),
     (b": 10>a", Nul::Keep, b"outside 0"),
     (b": >&1>f", Nul::Keep, b"outside 0"),
     (b": >&12", Nul::Keep, b"outside 0"),
     (b": >1>f", Nul::Keep, b"outside 0"),
     // here-documents
-    (b": <<'E'\nEx\nE\nexit 7\n)", Nul::Keep, b"<':'>0<<'Ex\n' ;<'exit'><'7'>;"),
-    (b": <<'E' 'a\nb'\nx\nE\nexit 3\n", Nul::Keep, b"<':'><'a\nb'>0<<'x\n' ;<'exit'><'3'>;"),
+    (
+        b": <<'E'\nEx\nE\nexit 7\n)",
+        Nul::Keep,
+        b"<':'>0<<'Ex\n' ;<'exit'><'7'>;",
+    ),
+    (
+        b": <<'E' 'a\nb'\nx\nE\nexit 3\n",
+        Nul::Keep,
+        b"<':'><'a\nb'>0<<'x\n' ;<'exit'><'3'>;",
+    ),
     (b": <<'E'\nx\nE", Nul::Keep, b"<':'>0<<'x\n' ;"),
     (b": <<'E'x\nE\n", Nul::Keep, b"outside 0"),
     (b":\n: <<'E'\nEx\n", Nul::Keep, b"outside 2"),
-    (b"a; b <<'E'; c <<'F' # d\nE\n1\nF\nd\n)", Nul::Keep, b"outside 32"),
+    (
+        b"a; b <<'E'; c <<'F' # d\nE\n1\nF\nd\n)",
+        Nul::Keep,
+        b"outside 32",
+    ),
     (b"a; b <<'E'; c; )\nE\n", Nul::Keep, b"outside 3"),
     // stopping commands
     (b"exit 7 # c\n)", Nul::Keep, b"<'exit'><'7'>;"),
     (b"exec \"$@\"\n|", Nul::Keep, b"outside 10"),
-    (b"x=1 exec \"$@\" a;)", Nul::Keep, b"x=<'1'> <'exec'><@><'a'>;"),
+    (
+        b"x=1 exec \"$@\" a;)",
+        Nul::Keep,
+        b"x=<'1'> <'exec'><@><'a'>;",
+    ),
     (b"\"exit\" 3\n)", Nul::Keep, b"outside 9"),
 ];
 

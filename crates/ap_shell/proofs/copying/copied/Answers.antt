@@ -3,7 +3,7 @@ use Rattle.std.proofs.lemmas.Bool.{eqb-true}
 use Rattle.std.proofs.lemmas.Bool.Decides.{nat_tests}
 use Rattle.ap_octal.specs.DdEffect.{blocks_copied, dd_effect}
 use Rattle.ap_shell.proofs.DdLemmas.{block_more, block_none}
-use Rattle.ap_shell.proofs.dd.copied.Goals as goal
+use Rattle.ap_shell.proofs.copying.copied.Goals as goal
 
 pub returns-then-is_empty : goal.returns-then-is_empty
 unfolding dd_effect

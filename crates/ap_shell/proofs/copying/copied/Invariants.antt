@@ -1,6 +1,6 @@
 use Rattle.std.proofs.Common.{◌≡◌, ◌+◌, ◌-◌, ◌*◌}
 use Rattle.ap_octal.specs.DdEffect.{blocks_copied}
-use Rattle.ap_shell.proofs.dd.copied.Given as goal
+use Rattle.ap_shell.proofs.copying.copied.Given as goal
 
 abbrev pub invariant-loop-i : goal.invariant-loop-i
 invariant-loop-i l = record {
