@@ -1,3 +1,4 @@
 pub mod Turns
 pub mod Keeps
 pub mod KeptRuns
+pub mod KeptPieces
