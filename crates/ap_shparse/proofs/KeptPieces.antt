@@ -68,7 +68,7 @@ keeps_single f = keeps_then (taking Quoted) (taking Quoted) (λ w u. and_then (e
 abbrev pub one_of : {A : Type 0} → Bool → A → Text → Outcome Text A
 one_of v a t = if v then Some (a, t) else None
 
-never_some : {X : Type 0} {x : X} → None ≡ Some x → ⊥
+pub never_some : {X : Type 0} {x : X} → None ≡ Some x → ⊥
 never_some e = cc
 
 -- a byte that is taken stays
@@ -160,6 +160,7 @@ pub record KeptTurns (sub : Text → Outcome Text Simple) (f : Found) (x : Text)
   pub spelling : x ≡ front ++ b
   pub has_stop : Has front
   pub eats : length r ≤ length front
+  pub takes : ends f x ≡ false → suc (length r) ≤ length front
   pub same : (c : Text) (m : ℕ) → length front ≤ m → units sub m f (front ++ c) ≡ Some (a, r ++ c)
 
 ends_here : (sub : Text → Outcome Text Simple) (m : ℕ) (f : Found) (x : Text) → ends f x ≡ true → units sub m f x ≡ Some (f, x)
@@ -171,11 +172,14 @@ goes_on : (sub : Text → Outcome Text Simple) (m : ℕ) (f : Found) (x : Text) 
 unfolding units
 goes_on sub m f x is = ap (λ v. if v then Some (f, x) else and_then (unit sub f x) (units sub m)) is
 
+true_false : true ≡ false → ⊥
+true_false e = cc
+
 at_end : (sub : Text → Outcome Text Simple) (f : Found) (x : Text) (a : Found) (r b : Text) → ends f x ≡ true → ◌≡◌ {A = Option (Found × Text)} (Some (f, x)) (Some (a, r ++ b)) → Has r → KeptTurns sub f x a r b
 at_end sub f x a r b is e h =
     let q = right_of f a x (r ++ b) e in
     record {
-      front = r; spelling = q; has_stop = h; eats = omega arith;
+      front = r; spelling = q; has_stop = h; eats = omega arith; takes = λ goes. absurd (true_false (sym is ∙ goes));
       same = λ c m le. ends_here sub m f (r ++ c) (ends_same f r c h ∙ sym (ends_same f r b h) ∙ ap (ends f) (sym q) ∙ is) ∙ ap (λ y. Some (y, r ++ c)) (left_of f a x (r ++ b) e);
     }
 
@@ -199,14 +203,14 @@ kept_units sub k (suc n) f x a r b e h = by_end (ends f x) refl e (λ g y q. kep
         let m = rec w.first w.left w.is_second in
         let u = takes_unit sub k f x w.first m.front b (w.is_first ∙ ap (λ y. Some (w.first, y)) m.spelling) m.has_stop in
         record {
-          front = u.front; spelling = u.spelling; has_stop = u.has_stop; eats = omega (arith, m.eats, u.eats);
+          front = u.front; spelling = u.spelling; has_stop = u.has_stop; eats = omega (arith, m.eats, u.eats); takes = λ goes. omega (arith, m.eats, u.eats);
           same = λ c. elim [
               zero ↦ λ le. absurd (omega (arith, le, u.eats))
             | suc j ↦ λ le. goes_on sub j f (u.front ++ c) (ends_same f u.front c u.has_stop ∙ sym (ends_same f u.front b u.has_stop) ∙ ap (ends f) (sym u.spelling) ∙ is)
                 ∙ ap (λ o. and_then o (units sub j)) (u.same c) ∙ m.same c j (omega (arith, le, u.eats)) ];
         }
 
-longer : (t b : Text) → length t ≤ length (t ++ b)
+pub longer : (t b : Text) → length t ≤ length (t ++ b)
 longer t b = omega (arith, length-append t b)
 
 pub keeps_pieces : (sub : Text → Outcome Text Simple) → Keeps sub sub → Keeps (pieces sub) (pieces sub)
@@ -214,3 +218,9 @@ unfolding pieces
 keeps_pieces sub k x a r b e h =
     let m = kept_units sub k (length x) none_found x a r b e h in
     record { front = m.front; spelling = m.spelling; has_stop = m.has_stop; eats = omega (arith, m.eats); same = λ c. m.same c (length (m.front ++ c)) (longer m.front c) }
+
+pub takes_pieces : (sub : Text → Outcome Text Simple) → Keeps sub sub → (x : Text) (a : Found) (r b : Text) → ends_word x ≡ false → pieces sub x ≡ Some (a, r ++ b) → Has r → Kept 1 (pieces sub) x a r b
+unfolding pieces
+takes_pieces sub k x a r b more e h =
+    let m = kept_units sub k (length x) none_found x a r b e h in
+    record { front = m.front; spelling = m.spelling; has_stop = m.has_stop; eats = omega (arith, m.takes more); same = λ c. m.same c (length (m.front ++ c)) (longer m.front c) }

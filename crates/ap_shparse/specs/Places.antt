@@ -1,6 +1,6 @@
 -- Where a reading stands in a text, and the here-documents that wait there (POSIX.1, 2.7.4).
 use Rattle.std.specs.Prelude.{ℕ, zero, suc, List, [], ◌∷◌, ◌++◌, Option, Some, None, Bool, false, ◌&&◌, ◌-◌, not, if◌then◌else◌, length, is_some, drop}
-use Rattle.ap_shparse.specs.Bytes.{Text, after, begins_with, ends_word, gap, is_among, past, past_byte, run}
+use Rattle.ap_shparse.specs.Bytes.{Text, after, begins_with, enders, ends_word, gap, is_among, past, past_byte, run}
 use Rattle.ap_shparse.specs.Reads.{Outcome, and_then, if_eaten, pure}
 use Rattle.ap_shparse.specs.Pieces.{expect, pieces}
 use Rattle.ap_shparse.specs.declared.class.Class.TheVariants.{Comment, Quoted}
@@ -55,10 +55,6 @@ newlines p = newlines_from (length p.text) p
 
 -- ---- here-documents
 
--- & ( ) ; < > and |
-abbrev pub operators : List ℕ
-operators = 38 ∷ 40 ∷ 41 ∷ 59 ∷ 60 ∷ 62 ∷ 124 ∷ []
-
 -- `"$@"`
 abbrev pub args : Text
 args = 34 ∷ 36 ∷ 64 ∷ 34 ∷ []
@@ -70,10 +66,10 @@ bracket = 91 ∷ []
 abbrev pub lone : Text → Option Text
 lone t = if_eaten (past bracket t) (λ u. Some u) (past args t)
 
--- an operator's byte, or a word
+-- a byte that no word holds, or a word
 unfoldable pub token : (Text → Outcome Text Simple) → Text → Outcome Text (Unit {0})
 token sub [] = None
-token sub (c ∷ t) = if is_among c operators then Some (tt, t) else if_eaten (lone (c ∷ t)) (pure tt) (and_then (pieces sub (c ∷ t)) (λ _. pure tt))
+token sub (c ∷ t) = if is_among c enders then Some (tt, t) else if_eaten (lone (c ∷ t)) (pure tt) (and_then (pieces sub (c ∷ t)) (λ _. pure tt))
 
 -- at the next newline that isn't part of a word; the number bounds the turns
 unfoldable pub line_from : (Text → Outcome Text Simple) → ℕ → Text → Outcome Text (Unit {0})

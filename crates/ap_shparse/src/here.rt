@@ -8,11 +8,9 @@ use crate::class::Class;
 use crate::lines::Lines;
 use crate::pieces::{Substitution, Words};
 use crate::refusal::Refusal;
-use crate::text::Text;
+use crate::text::{ENDERS, Text};
 use sqlite_items::Items;
 use std::alloc::Global;
-
-const OPERATORS: &[u8] = b"&();<>|";
 
 const ARGS: &[u8] = b"\"$@\"";
 
@@ -72,7 +70,7 @@ fn lines_before(alloc: Global, text: &mut Text<'_>, delimiter: &[u8], turns: usi
 }
 
 impl<S: Substitution> Words<S> {
-    // An operator's byte, or a word.
+    // A byte that no word holds, or a word.
     #[tactic(auto, unfolding(crate::specs::Places::token))]
     fn token(&self, text: &mut Text<'_>) -> Result<(), Refusal>
         ensures { Reads (spec.token (S.reads self.now.sub) text.old) result text.new }
@@ -80,8 +78,8 @@ impl<S: Substitution> Words<S> {
         let Some(byte) = text.first() else {
             return Err(Refusal::Outside);
         };
-        if OPERATORS.contains(&byte) {
-            let _operator = text.next();
+        if ENDERS.contains(&byte) {
+            let _byte = text.next();
             return Ok(());
         }
         if eat_lone(text) {

@@ -25,7 +25,8 @@ impl<'a> Model for Text<'a> {
     ghost view = { λ t. t.rest.now };
 }
 
-const ENDERS: &[u8] = b"\t\n &();<>|";
+/// What may stand behind a word.
+pub(crate) const ENDERS: &[u8] = b"\t\n &();<>|";
 
 impl<'a> Text<'a> {
     pub(crate) fn new(text: &'a [u8]) -> Text<'a>
