@@ -5,3 +5,5 @@ pub mod KeptPieces
 pub mod KeptWords
 pub mod KeptHere
 pub mod KeptPlaces
+pub mod KeptLines
+pub mod KeptCommands
