@@ -1,10 +1,10 @@
 -- Simple commands (POSIX.1, 2.9.1).
 use Rattle.std.specs.Prelude.{ℕ, zero, suc, List, [], ◌∷◌, ◌++◌, Option, Some, None, Bool, true, false, ◌||◌, ◌&&◌, not, if◌then◌else◌, length, is_some, codes}
-use Rattle.ap_shparse.specs.Bytes.{Text, after, ends_word, past, run}
+use Rattle.ap_shparse.specs.Bytes.{begins_with, Text, after, ends_word, past, run}
 use Rattle.ap_shparse.specs.Reads.{Outcome, and_then, if_eaten, pure}
 use Rattle.ap_shparse.specs.Pieces.{expect}
 use Rattle.ap_shparse.specs.Places.{Place, args, at_text}
-use Rattle.ap_shparse.specs.Words.{assignment, begins_with, is_assignment, plain_word}
+use Rattle.ap_shparse.specs.Words.{assignment, is_assignment, plain_word}
 use Rattle.ap_shparse.specs.Redirects.{next_operator, number, redirects, target_of}
 use Rattle.ap_shparse.specs.declared.class.Class.TheVariants.{Blank, Digit}
 use Rattle.ap_shparse.specs.declared.redirect.Operator.{Operator}
@@ -128,7 +128,7 @@ abbrev pub no_substitution : Text → Outcome Text Simple
 no_substitution t = None
 
 abbrev pub alone : Text → Place
-alone t = record { text = t; bodies = None; open_end = true }
+alone t = record { text = t; bodies = None }
 
 -- behind `$(`
 unfoldable pub substitution : Text → Outcome Text Simple
