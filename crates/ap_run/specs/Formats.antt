@@ -10,10 +10,13 @@ use Rattle.ap_image.specs.Plans.{Mapping}
 use Rattle.ap_elf.specs.ElfReading.{elf_reading}
 use Rattle.ap_elfmap.specs.ElfPlans.{elf_plan}
 use Rattle.ap_loader.specs.ApeReading.{ape_reading, ape_plan}
+use Rattle.ap_pe.specs.declared.fault.PeFault.{PeFault}
+use Rattle.ap_pe.specs.PeReading.{pe_reading}
+use Rattle.ap_pemap.specs.PePlans.{pe_plan}
 use Rattle.ap_run.specs.declared.end.ReadingFault.{ReadingFault}
 use Rattle.ap_run.specs.declared.end.ReadingFault.TheVariants as fault
 use Rattle.ap_run.specs.declared.format.Form.{Form}
-use Rattle.ap_run.specs.declared.format.Form.TheVariants.{Ape, Elf}
+use Rattle.ap_run.specs.declared.format.Form.TheVariants.{Ape, Elf, Pe}
 use Rattle.ap_run.specs.declared.format.Format.{Format}
 use Rattle.ap_run.specs.PlanTexts.{plan_text}
 
@@ -31,15 +34,23 @@ abbrev pub by_elf : {T : Type 0} → Result T ElfFault → Result T ReadingFault
 by_elf (Ok answer) = Ok answer
 by_elf (Err f) = Err (fault.Elf f)
 
+abbrev pub by_pe : {T : Type 0} → Result T PeFault → Result T ReadingFault
+by_pe (Ok answer) = Ok answer
+by_pe (Err f) = Err (fault.Pe f)
+
 abbrev pub ape_plan_in : Machine → ℕ → List ℕ → Result Mapping ReadingFault
 ape_plan_in machine page file = by_ape (ape_plan (number_of machine) page file)
 
 abbrev pub elf_plan_in : Machine → ℕ → List ℕ → Result Mapping ReadingFault
 elf_plan_in machine page file = by_elf (elf_plan (number_of machine) page file)
 
+abbrev pub pe_plan_in : List ℕ → Result Mapping ReadingFault
+pe_plan_in file = by_pe (pe_plan file)
+
 abbrev pub plan_by_form : Form → Machine → ℕ → List ℕ → Result Mapping ReadingFault
 plan_by_form Ape machine page file = ape_plan_in machine page file
 plan_by_form Elf machine page file = elf_plan_in machine page file
+plan_by_form Pe machine page file = pe_plan_in file
 
 -- the plan of a file by a format, or the refusal
 unfoldable pub plan_in : Format → List ℕ → Result Mapping ReadingFault
@@ -48,6 +59,7 @@ plan_in format file = plan_by_form format.form format.machine format.page file
 abbrev pub reading_by_form : Form → Machine → ℕ → List ℕ → Result MemoryImage ReadingFault
 reading_by_form Ape machine page file = by_ape (ape_reading (number_of machine) page file)
 reading_by_form Elf machine page file = by_elf (elf_reading (number_of machine) page file)
+reading_by_form Pe machine page file = by_pe (pe_reading file)
 
 -- what a file puts into memory by a format's definition, address by address, or the refusal
 unfoldable pub reading_in : Format → List ℕ → Result MemoryImage ReadingFault

@@ -6,8 +6,11 @@ use Rattle.ap_elf.specs.declared.fault.ElfCause.TheVariants as elf
 use Rattle.ap_elf.specs.declared.fault.ElfFault.{ElfFault}
 use Rattle.ap_loader.specs.declared.fault.ApeFault.{ApeFault}
 use Rattle.ap_loader.specs.declared.fault.ApeFault.TheVariants as ape
+use Rattle.ap_pe.specs.declared.fault.PeCause.{PeCause}
+use Rattle.ap_pe.specs.declared.fault.PeCause.TheVariants as pe
+use Rattle.ap_pe.specs.declared.fault.PeFault.{PeFault}
 use Rattle.ap_run.specs.declared.end.ReadingFault.{ReadingFault}
-use Rattle.ap_run.specs.declared.end.ReadingFault.TheVariants.{Large, Wide, Elf, Ape}
+use Rattle.ap_run.specs.declared.end.ReadingFault.TheVariants.{Large, Wide, Elf, Ape, Pe}
 use Rattle.ap_run.specs.declared.end.Cause.{Cause}
 use Rattle.ap_run.specs.declared.end.Cause.TheVariants.{Done, Refused, Unread, Usage, ReadFault, WriteFault, OutFault, NoMemory}
 
@@ -50,11 +53,36 @@ ape_line ape.NoMagic = fault_line (codes "ape") (codes "NoMagic") 0 0
 ape_line ape.NoStatement = fault_line (codes "ape") (codes "NoStatement") 0 0
 ape_line (ape.Elf f) = elf_line f
 
+abbrev pub pe_cause_name : PeCause → List ℕ
+pe_cause_name pe.Mz = codes "Mz"
+pe_cause_name pe.Signature = codes "Signature"
+pe_cause_name pe.Machine = codes "Machine"
+pe_cause_name pe.Sections = codes "Sections"
+pe_cause_name pe.OptionalSize = codes "OptionalSize"
+pe_cause_name pe.OptionalMagic = codes "OptionalMagic"
+pe_cause_name pe.Base = codes "Base"
+pe_cause_name pe.Alignment = codes "Alignment"
+pe_cause_name pe.Directories = codes "Directories"
+pe_cause_name pe.SectionTable = codes "SectionTable"
+pe_cause_name pe.HeadersSize = codes "HeadersSize"
+pe_cause_name pe.Empty = codes "Empty"
+pe_cause_name pe.Adjacent = codes "Adjacent"
+pe_cause_name pe.RawAlign = codes "RawAlign"
+pe_cause_name pe.RawRange = codes "RawRange"
+pe_cause_name pe.SectionEnd = codes "SectionEnd"
+pe_cause_name pe.ImageSize = codes "ImageSize"
+pe_cause_name pe.Top = codes "Top"
+pe_cause_name pe.Entry = codes "Entry"
+
+abbrev pub pe_line : PeFault → List ℕ
+pe_line f = fault_line (codes "pe") (pe_cause_name f.cause) f.item f.value
+
 abbrev pub reading_line : ReadingFault → List ℕ
 reading_line (Large size) = fault_line (codes "file") (codes "Large") 0 size
 reading_line (Wide total) = fault_line (codes "image") (codes "Wide") 0 total
 reading_line (Elf f) = elf_line f
 reading_line (Ape f) = ape_line f
+reading_line (Pe f) = pe_line f
 
 -- the line of a cause, but for a command that did its work
 abbrev pub line_of : Cause → Option (List ℕ)

@@ -1,4 +1,4 @@
--- The words of a command that shows a file, `load [--machine M] [--page N] [--dump OUT] FILE` or `map --as elf [--machine M] [--page N] FILE`:
+-- The words of a command that shows a file, `load [--machine M] [--page N] [--dump OUT] FILE` or `map --as FORM [--machine M] [--page N] FILE`:
 -- options in any order, each with its value behind it, and the file.
 use Rattle.std.specs.Prelude.{ℕ, if◌then◌else◌, ◌&&◌, ◌||◌, not, Bool, true, is_some, is_none, unwrap_or, List, [], ◌∷◌, codes, Option, Some, None}
 use Rattle.std.specs.Option.{option_map, option_and_then}
@@ -7,7 +7,7 @@ use Rattle.ap_elf.specs.declared.machine.Machine.{Machine}
 use Rattle.ap_elf.specs.declared.machine.Machine.TheVariants.{X64, A64}
 use Rattle.ap_elf.specs.Machines.{granule_of}
 use Rattle.ap_run.specs.declared.format.Form.{Form}
-use Rattle.ap_run.specs.declared.format.Form.TheVariants.{Ape, Elf}
+use Rattle.ap_run.specs.declared.format.Form.TheVariants.{Ape, Elf, Pe}
 use Rattle.ap_run.specs.declared.format.Format.{Format}
 use Rattle.ap_run.specs.declared.options.Options.{Options}
 use Rattle.ap_run.specs.Formats.{has_page}
@@ -35,9 +35,12 @@ machine_named name = if bytes_eq name (codes "x86-64") then Some X64 else (if by
 abbrev pub page_named : List ℕ → Option ℕ
 page_named name = if bytes_eq name (codes "4096") then Some 4096 else (if bytes_eq name (codes "16384") then Some 16384 else None)
 
+abbrev pub form_named : List ℕ → Option Form
+form_named name = if bytes_eq name (codes "elf") then Some Elf else (if bytes_eq name (codes "pe") then Some Pe else None)
+
 -- an option is given once at most
 abbrev pub with_form : Options → List ℕ → Option Options
-with_form o value = if is_none o.form && bytes_eq value (codes "elf") then Some (record o { form = Some Elf }) else None
+with_form o value = if is_some o.form then None else option_map (λ f. record o { form = Some f }) (form_named value)
 
 abbrev pub with_machine : Options → List ℕ → Option Options
 with_machine o value = if is_some o.machine then None else option_map (λ m. record o { machine = Some m }) (machine_named value)

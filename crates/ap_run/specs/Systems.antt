@@ -14,7 +14,8 @@ abbrev pub system_named : List ℕ → Option Systems
 system_named name =
     if bytes_eq name (codes "linux") then Some (record { 0 = 1 })
     else (if bytes_eq name (codes "freebsd") then Some (record { 0 = 2 })
-    else (if bytes_eq name (codes "netbsd") then Some (record { 0 = 4 }) else None))
+    else (if bytes_eq name (codes "netbsd") then Some (record { 0 = 4 })
+    else (if bytes_eq name (codes "windows") then Some (record { 0 = 8 }) else None)))
 
 -- the systems of either
 abbrev pub both_systems : Systems → Systems → Systems

@@ -80,7 +80,7 @@ fn link<F: Files>(files: &mut F, names: &Link<'_>) -> Cause
 {
     let options = Options {
         systems: names.systems,
-        debug: false,
+        debug: names.debug,
     };
     let mut block = Block::new();
     match link_stream(

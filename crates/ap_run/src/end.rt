@@ -9,6 +9,7 @@ use ap_check::Fault;
 use ap_elf::ElfFault;
 use ap_files::{Sink, print};
 use ap_loader::ApeFault;
+use ap_pemap::PeFault;
 
 /// Why a file isn't taken by a command that reads one.
 #[derive(Clone, Copy, Debug, PartialEq, Eq)]
@@ -27,6 +28,8 @@ pub enum ReadingFault {
     Elf(ElfFault),
     /// It has no APE reading.
     Ape(ApeFault),
+    /// It has no PE reading.
+    Pe(PeFault),
 }
 
 /// Why a run ended.

@@ -12,6 +12,7 @@ use ap_elfmap::ElfReading;
 use ap_files::{Failed, Files};
 use ap_image::Plan;
 use ap_loader::ApeReading;
+use ap_pemap::PeReading;
 
 /// A form of program files.
 #[derive(Clone, Copy, Debug, PartialEq, Eq)]
@@ -20,6 +21,8 @@ pub enum Form {
     Ape,
     /// ELF.
     Elf,
+    /// PE32+ for x86-64, whose plan doesn't depend on machine and page.
+    Pe,
 }
 
 /// A form, for a machine and one of its page sizes.
@@ -52,6 +55,7 @@ impl Format {
         match self.form {
             Form::Ape => ape_plan(self.machine, self.page, files, name, size),
             Form::Elf => elf_plan(self.machine, self.page, files, name, size),
+            Form::Pe => pe_plan(files, name, size),
         }
     }
 }
@@ -92,6 +96,22 @@ fn elf_plan<F: Files>(
     let reading = ElfReading { machine, page };
     match reading.read_in(files, name, size) {
         Ok(plan) => Ok(plan.map_err(ReadingFault::Elf)),
+        Err(failed) => Err(failed),
+    }
+}
+
+fn pe_plan<F: Files>(
+    files: &mut F,
+    name: &str,
+    size: u64,
+) -> Result<Result<Plan, ReadingFault>, Failed>
+    requires { HasSize (F.state files.old).kept name.now size }
+    ensures read { Reads (F.state files.old) (F.state files.new) name.now
+        (λ b plan. plan ≡ spec.pe_plan_in b) result }
+    ensures backed { IfOk result (λ plan. IfOk plan (λ p. AreBacked p.regions size)) }
+{
+    match PeReading.read_in(files, name, size) {
+        Ok(plan) => Ok(plan.map_err(ReadingFault::Pe)),
         Err(failed) => Err(failed),
     }
 }

@@ -2,12 +2,13 @@
 ghost use Rattle.std.specs.Prelude.{◌≡◌, ◌+◌, ◌≤◌, ◌++◌, length, decimal, option_map};
 ghost use Rattle.arrayvec.specs.ArrayVec.{array_vec_len};
 ghost use Rattle.ap_run.specs.Lines as spec;
-ghost use Rattle.ap_run.specs.Lines.{line_of, fault_line, cause_name};
+ghost use Rattle.ap_run.specs.Lines.{line_of, fault_line, cause_name, pe_cause_name};
 
 use crate::end::{Cause, ReadingFault};
 use ap_check::Fault;
 use ap_elf::{ElfCause, ElfFault};
 use ap_loader::ApeFault;
+use ap_pemap::{PeCause, PeFault};
 use arrayvec::ArrayVec;
 use itoa::Buffer;
 
@@ -63,6 +64,7 @@ fn reading_line(fault: &ReadingFault) -> Line
         ReadingFault::Wide { total } => form_line(b"image", b"Wide", 0, *total),
         ReadingFault::Elf(fault) => elf_line(fault),
         ReadingFault::Ape(fault) => ape_line(fault),
+        ReadingFault::Pe(fault) => pe_line(fault),
     }
 }
 
@@ -80,6 +82,12 @@ fn elf_line(fault: &ElfFault) -> Line
     ensures { result.items ≡ spec.elf_line fault.now }
 {
     form_line(b"elf", name(fault.cause), fault.item, fault.value)
+}
+
+fn pe_line(fault: &PeFault) -> Line
+    ensures { result.items ≡ spec.pe_line fault.now }
+{
+    form_line(b"pe", pe_name(fault.cause), fault.item, fault.value)
 }
 
 // The line of a form, the name of a cause, an item and a value.
@@ -123,6 +131,34 @@ fn name(cause: ElfCause) -> &'static [u8]
         ElfCause::Congruent => b"Congruent",
         ElfCause::Order => b"Order",
         ElfCause::NoLoad => b"NoLoad",
+    }
+}
+
+// The name of a cause of the PE reading.
+fn pe_name(cause: PeCause) -> &'static [u8]
+    ensures name { result.now ≡ pe_cause_name cause }
+    ensures short { length result.now ≤ 20 }
+{
+    match cause {
+        PeCause::Mz => b"Mz",
+        PeCause::Signature => b"Signature",
+        PeCause::Machine => b"Machine",
+        PeCause::Sections => b"Sections",
+        PeCause::OptionalSize => b"OptionalSize",
+        PeCause::OptionalMagic => b"OptionalMagic",
+        PeCause::Base => b"Base",
+        PeCause::Alignment => b"Alignment",
+        PeCause::Directories => b"Directories",
+        PeCause::SectionTable => b"SectionTable",
+        PeCause::HeadersSize => b"HeadersSize",
+        PeCause::Empty => b"Empty",
+        PeCause::Adjacent => b"Adjacent",
+        PeCause::RawAlign => b"RawAlign",
+        PeCause::RawRange => b"RawRange",
+        PeCause::SectionEnd => b"SectionEnd",
+        PeCause::ImageSize => b"ImageSize",
+        PeCause::Top => b"Top",
+        PeCause::Entry => b"Entry",
     }
 }
 

@@ -35,8 +35,8 @@ struct Given<'a> {
     file: &'a str,
 }
 
-/// The view in the words `load [--machine M] [--page N] [--dump OUT] FILE` or `map --as elf [--machine M] [--page N] FILE`,
-/// whose options stand in any order; any other words are none. M is `x86-64`, which it is where it isn't given, or
+/// The view in the words `load [--machine M] [--page N] [--dump OUT] FILE` or `map --as FORM [--machine M] [--page N] FILE`,
+/// whose options stand in any order; any other words are none. FORM is `elf` or `pe`. M is `x86-64`, which it is where it isn't given, or
 /// `aarch64`. N is 4096, or 16384 for AArch64; where it isn't given, it is the greatest of the machine. OUT isn't FILE.
 pub fn read_view(words: &[String]) -> Option<View<'_>>
     ensures page { IfSome result (λ v. IsPage v.format.machine v.format.page) }
@@ -188,11 +188,23 @@ fn with_option(options: Options, name: &str, value: &str) -> Option<Options>
 fn with_form(options: Options, value: &str) -> Option<Options>
     ensures { result ≡ spec.with_form options value.now }
 {
-    if options.form.is_none() && value == "elf" {
-        Some(Options {
-            form: Some(Form::Elf),
-            ..options
-        })
+    if options.form.is_some() {
+        return None;
+    }
+    let form = form_named(value)?;
+    Some(Options {
+        form: Some(form),
+        ..options
+    })
+}
+
+fn form_named(name: &str) -> Option<Form>
+    ensures { result ≡ spec.form_named name.now }
+{
+    if name == "elf" {
+        Some(Form::Elf)
+    } else if name == "pe" {
+        Some(Form::Pe)
     } else {
         None
     }

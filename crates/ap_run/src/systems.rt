@@ -5,12 +5,12 @@ ghost use Rattle.ap_run.specs.Systems as spec;
 use ap_check::Systems;
 use bitflags::Flags;
 
-/// The systems of a list of names that are joined by commas, each of them `linux`, `freebsd` or `netbsd`. There is one name
+/// The systems of a list of names that are joined by commas, each of them `linux`, `freebsd`, `netbsd` or `windows`. There is one name
 /// at least, and a name may stand more than once.
 #[tactic(auto, unfolding(crate::specs::Systems::systems_in))]
 pub fn systems_in(list: &str) -> Option<Systems>
     ensures systems { result ≡ spec.systems_in list.now }
-    ensures built { IfSome result (λ s. s.0 < 8) }
+    ensures built { IfSome result (λ s. s.0 < 16) }
 {
     let Some((name, rest)) = list.split_once(',') else {
         return system_named(list);
@@ -22,7 +22,7 @@ pub fn systems_in(list: &str) -> Option<Systems>
 
 fn system_named(name: &str) -> Option<Systems>
     ensures system { result ≡ spec.system_named name.now }
-    ensures built { IfSome result (λ s. s.0 < 8) }
+    ensures built { IfSome result (λ s. s.0 < 16) }
 {
     if name == "linux" {
         Some(Systems::LINUX)
@@ -30,6 +30,8 @@ fn system_named(name: &str) -> Option<Systems>
         Some(Systems::FREEBSD)
     } else if name == "netbsd" {
         Some(Systems::NETBSD)
+    } else if name == "windows" {
+        Some(Systems::WINDOWS)
     } else {
         None
     }

@@ -6,11 +6,12 @@ ghost use Rattle.ap_run.specs.Words.{link_names, link_parts, names_in, names_of,
 
 use crate::link::{Link, Parts};
 use crate::systems::systems_in;
-use ap_check::Systems;
+use ap_check::{Options, Systems};
+use bitflags::Flags;
 
-/// The link in the words `link --systems LIST -o OUT IN [IN]`; any other words are none. LIST is names joined by commas, each
-/// of them `linux`, `freebsd` or `netbsd`. Options and inputs stand in any order, but two inputs stand together. OUT is none
-/// of the inputs.
+/// The link in the words `link --systems LIST [--debug-magic] -o OUT IN [IN]`; any other words are none. LIST is names joined by
+/// commas, each of them `linux`, `freebsd`, `netbsd` or `windows`; with the last there is no `--debug-magic`. Options, flag and
+/// inputs stand in any order, but two inputs stand together. OUT is none of the inputs.
 pub fn read_link(words: &[String]) -> Option<Link<'_>>
     ensures first { IfSome result (λ l. l.first.now ≢ l.out.now) }
     ensures second { IfSome result (λ l. IfSome (option_copied l.second) (λ n. n ≢ l.out.now)) }
@@ -28,6 +29,7 @@ pub fn read_link(words: &[String]) -> Option<Link<'_>>
 
 const NO_PARTS: Parts<'static> = Parts {
     systems: None,
+    debug: false,
     out: None,
     first: None,
     second: None,
@@ -42,30 +44,46 @@ fn link_of(parts: Parts<'_>) -> Option<Link<'_>>
     let systems = parts.systems?;
     let out = parts.out?;
     let first = parts.first?;
-    link_with(systems, out, first, parts.second)
+    let options = Options {
+        systems,
+        debug: parts.debug,
+    };
+    link_with(options, out, first, parts.second)
 }
 
 fn link_with<'a>(
-    systems: Systems,
+    options: Options,
     out: &'a str,
     first: &'a str,
     second: Option<&'a str>,
 ) -> Option<Link<'a>>
-    requires { systems.0 < 8 }
+    requires { options.systems.0 < 16 }
     ensures first { IfSome result (λ l. l.first.now ≢ l.out.now) }
     ensures second { IfSome result (λ l. IfSome (option_copied l.second) (λ n. n ≢ l.out.now)) }
     ensures names { option_map link_names result
-        ≡ names_with systems out.now first.now (option_copied second.entry) }
+        ≡ names_with options out.now first.now (option_copied second.entry) }
 {
-    if out == first || !is_other(out, second) {
+    if !is_magic(options) || out == first || !is_other(out, second) {
         return None;
     }
     Some(Link {
-        systems,
+        systems: options.systems,
+        debug: options.debug,
         out,
         first,
         second,
     })
+}
+
+// Whether there is a magic for these options.
+fn is_magic(options: Options) -> bool
+    ensures { result ≡ spec.is_magic options }
+{
+    if options.debug {
+        !options.systems.intersects(Systems::WINDOWS)
+    } else {
+        true
+    }
 }
 
 // Whether the file to make isn't the second input.
@@ -87,6 +105,10 @@ fn read_parts<'a>(parts: Parts<'a>, words: &'a [String]) -> Option<Parts<'a>>
     match words {
         [] => Some(parts),
         [word] => with_last(parts, word.as_str()),
+        [word, _, ..] if is_flag(word.as_str()) => {
+            let parts = with_flag(parts)?;
+            read_parts(parts, &words[1..])
+        }
         [name, value, rest @ ..] if is_option(name.as_str()) => {
             let parts = with_value(parts, name.as_str(), value.as_str())?;
             read_parts(parts, rest)
@@ -106,7 +128,9 @@ fn read_parts<'a>(parts: Parts<'a>, words: &'a [String]) -> Option<Parts<'a>>
 fn with_last<'a>(parts: Parts<'a>, word: &'a str) -> Option<Parts<'a>>
     ensures { option_map link_parts result ≡ spec.with_last (link_parts parts.entry) word.now }
 {
-    if is_option(word) {
+    if is_flag(word) {
+        with_flag(parts)
+    } else if is_option(word) {
         None
     } else {
         with_inputs(parts, word, None)
@@ -136,6 +160,7 @@ fn with_systems<'a>(parts: Parts<'a>, value: &str) -> Option<Parts<'a>>
     let systems = systems_in(value)?;
     Some(Parts {
         systems: Some(systems),
+        debug: parts.debug,
         out: parts.out,
         first: parts.first,
         second: parts.second,
@@ -150,6 +175,7 @@ fn with_out<'a>(parts: Parts<'a>, value: &'a str) -> Option<Parts<'a>>
     }
     Some(Parts {
         systems: parts.systems,
+        debug: parts.debug,
         out: Some(value),
         first: parts.first,
         second: parts.second,
@@ -166,10 +192,34 @@ fn with_inputs<'a>(parts: Parts<'a>, first: &'a str, second: Option<&'a str>) ->
     }
     Some(Parts {
         systems: parts.systems,
+        debug: parts.debug,
         out: parts.out,
         first: Some(first),
         second,
     })
+}
+
+// What the flag says besides.
+fn with_flag(parts: Parts<'_>) -> Option<Parts<'_>>
+    ensures { option_map link_parts result ≡ spec.with_flag (link_parts parts.entry) }
+{
+    if parts.debug {
+        return None;
+    }
+    Some(Parts {
+        systems: parts.systems,
+        debug: true,
+        out: parts.out,
+        first: parts.first,
+        second: parts.second,
+    })
+}
+
+// Whether a word is the flag, which has no value.
+fn is_flag(word: &str) -> bool
+    ensures { result ≡ spec.is_flag word.now }
+{
+    word == "--debug-magic"
 }
 
 /// Whether a word begins as an option does.

@@ -22,6 +22,17 @@ returns-in_err-system-clause-systems t c =
     c.from_residual.ensures
     ∙ sym (systems-more list name rest parts.0 parts.1 ∙ ap (option_and_then (λ s. option_map (both_systems s) (systems_in rest))) (sym c.in_err-system.ensures.system))
 
+pub returns-in_err-others-clause-systems : goal.returns-in_err-others-clause-systems
+returns-in_err-others-clause-systems t c =
+    let list = c.args.list.now in
+    let name = c.in-Some.name.now in
+    let rest = c.in-Some.rest.now in
+    let system = c.in_ok-system.system in
+    let parts = split_parts 44 list (Some (c.in-Some.name, c.in-Some.rest)) c.in-Some.ensures.cases (omega arith) in
+    let first : system_named name ≡ Some system = sym c.in_ok-system.ensures.system in
+    c.from_residual-in_err-others.ensures
+    ∙ sym (systems-more list name rest parts.0 parts.1 ∙ ap (option_and_then (λ s. option_map (both_systems s) (systems_in rest))) first ∙ ap (option_map (both_systems system)) (sym c.in_err-others.ensures.systems))
+
 pub returns-clause-systems : goal.returns-clause-systems
 returns-clause-systems t c =
     let list = c.args.list.now in
@@ -38,5 +49,5 @@ returns-clause-systems t c =
 
 pub returns-clause-built : goal.returns-clause-built
 returns-clause-built t c =
-    let P : ℕ → Type 0 = λ n. n < 8 in
-    subst P (sym (c.union.ensures tt)) (or_lt 3 c.in_ok-system.system.0 c.in_ok-others.others.0 c.in_ok-system.ensures.built c.in_ok-others.ensures.built)
+    let P : ℕ → Type 0 = λ n. n < 16 in
+    subst P (sym (c.union.ensures tt)) (or_lt 4 c.in_ok-system.system.0 c.in_ok-others.others.0 c.in_ok-system.ensures.built c.in_ok-others.ensures.built)
