@@ -3,6 +3,7 @@ ghost use Rattle.std.specs.Prelude.{◌≡◌, IfOk, false};
 ghost use Rattle.ap_files.specs.Machine.{no_faults, untold_files};
 
 mod blocks;
+mod imports;
 mod inputs;
 mod positions;
 
