@@ -7,3 +7,4 @@ pub mod KeptHere
 pub mod KeptPlaces
 pub mod KeptLines
 pub mod KeptCommands
+pub mod KeptItems
