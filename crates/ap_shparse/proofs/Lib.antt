@@ -8,3 +8,4 @@ pub mod KeptPlaces
 pub mod KeptLines
 pub mod KeptCommands
 pub mod KeptItems
+pub mod ItemLemmas

@@ -40,7 +40,7 @@ left_at left p = if waits p then left else min left (length p.text)
 
 -- the number bounds the turns
 unfoldable pub script_from : (Place → Outcome Place Item) → ℕ → ℕ → List Chain → Place → Answer
-script_from item zero left found p = Ok found
+script_from item zero left found p = if_eaten (newlines p) (λ q. if is_nil q.text && not (waits q) then Ok found else Err (left_at left q)) (Err left)
 script_from item (suc n) left found p =
     if_eaten (newlines p) (λ q. by_turn (script_from item n) (left_at left q) found (turn item q)) (Err left)
 
