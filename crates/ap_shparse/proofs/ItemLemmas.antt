@@ -10,6 +10,7 @@ use Rattle.ap_shparse.specs.Scripts.{at_end, turn, turn_of}
 use Rattle.ap_shparse.specs.Fronts.{cut_at, is_cut, whole_item}
 use Rattle.ap_shparse.specs.declared.item.Item.{Item}
 use Rattle.ap_shparse.specs.declared.script.Turn.{Turn}
+use Rattle.ap_shparse.specs.declared.tree.Chain.{Chain}
 use Rattle.ap_shparse.specs.declared.script.Turn.TheVariants as turned
 use Rattle.ap_shparse.proofs.Keeps.{Has, both_of, inner, left_of, right_of}
 use Rattle.ap_shparse.proofs.KeptRuns.{kept_gap}
@@ -142,3 +143,41 @@ read_whole item q t s e =
       is_read = record { item_of = i; behind = y; is_item = is; is_end = some_end (past_end (past_gap y)) s t (turn_of i (waits y)) e; is_turn = some_turn (past_end (past_gap y)) s t (turn_of i (waits y)) e };
       uncut = some_bodies y.bodies c;
     }
+
+pub record ReadNext (item : Place → Outcome Place Item) (q : Place) (t : Turn) (s : Place) : Type 0 where
+  pub is_read : ReadItem item q t s
+  pub not_nil : is_nil q.text ≡ false
+
+abbrev nil_turn : Place → Outcome Place Turn
+nil_turn q = if waits q then None else Some (turned.End, q)
+
+abbrev nil_end : Item → Place → Outcome Place Turn
+nil_end i p = if waits p then None else Some (turned.Last i.chain, p)
+
+abbrev or_turn : Bool → Turn → Place → Outcome Place Turn
+or_turn v t p = if v then None else Some (t, p)
+
+last_not_next : (v : Bool) (i : Item) (p s : Place) (c : Chain) → or_turn v (turned.Last i.chain) p ≡ Some (turned.Next c, s) → ⊥
+last_not_next true i p s c e = cc
+last_not_next false i p s c e = let n = left_of (turned.Last i.chain) (turned.Next c) p s e in cc
+
+end_not_next : (v : Bool) (p s : Place) (c : Chain) → or_turn v turned.End p ≡ Some (turned.Next c, s) → ⊥
+end_not_next true p s c e = cc
+end_not_next false p s c e = let n = left_of turned.End (turned.Next c) p s e in cc
+
+pub read_next : (item : Place → Outcome Place Item) (q : Place) (c : Chain) (s : Place) → turn item q ≡ Some (turned.Next c, s) → ReadNext item q (turned.Next c) s
+unfolding turn
+read_next item q c s e = by_nil (is_nil q.text) refl e
+  where
+    by_end : (i : Item) (y : Place) → item q ≡ Some (i, y) → is_nil q.text ≡ false → (v : Bool) → is_nil (past_gap y).text ≡ v
+        → (if v then nil_end i (past_gap y) else and_then (ended (past_gap y)) (λ _ z. Some (turn_of i (waits (past_gap y)), z))) ≡ Some (turned.Next c, s) → ReadNext item q (turned.Next c) s
+    by_end i y is n true g e = absurd (last_not_next (waits (past_gap y)) i (past_gap y) s c e)
+    by_end i y is n false g e = record {
+      is_read = record { item_of = i; behind = y; is_item = is; is_end = some_end (past_end (past_gap y)) s (turned.Next c) (turn_of i (waits y)) e; is_turn = some_turn (past_end (past_gap y)) s (turned.Next c) (turn_of i (waits y)) e };
+      not_nil = n;
+    }
+    by_nil : (v : Bool) → is_nil q.text ≡ v → (if v then nil_turn q else and_then (item q) (λ j z. at_end j (past_gap z))) ≡ Some (turned.Next c, s) → ReadNext item q (turned.Next c) s
+    by_nil true n e = absurd (end_not_next (waits q) q s c e)
+    by_nil false n e =
+        let w = both_of (item q) (λ j z. at_end j (past_gap z)) (turned.Next c, s) e in
+        by_end w.first w.left w.is_first n (is_nil (past_gap w.left).text) refl w.is_second

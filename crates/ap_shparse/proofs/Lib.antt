@@ -9,3 +9,4 @@ pub mod KeptLines
 pub mod KeptCommands
 pub mod KeptItems
 pub mod ItemLemmas
+pub mod GapLemmas
