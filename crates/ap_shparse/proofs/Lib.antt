@@ -1,1 +1,12 @@
 pub mod Turns
+pub mod Keeps
+pub mod KeptRuns
+pub mod KeptPieces
+pub mod KeptWords
+pub mod KeptHere
+pub mod KeptPlaces
+pub mod KeptLines
+pub mod KeptCommands
+pub mod KeptItems
+pub mod ItemLemmas
+pub mod GapLemmas

@@ -1,5 +1,5 @@
 -- The bytes of a text by their classes (POSIX.1, 2.2 and 2.3), and the runs of a text.
-use Rattle.std.specs.Prelude.{ℕ, List, [], ◌∷◌, Option, Some, None, Bool, true, ◌==◌, ◌||◌, ◌&&◌, not, nat_le, if◌then◌else◌}
+use Rattle.std.specs.Prelude.{ℕ, List, [], ◌∷◌, Option, Some, None, Bool, true, ◌==◌, ◌||◌, ◌&&◌, not, nat_le, if◌then◌else◌, is_some}
 use Rattle.std.specs.List.{list_any}
 use Rattle.ap_shparse.specs.declared.class.Class.{Class}
 use Rattle.ap_shparse.specs.declared.class.Class.TheVariants.{Blank, Comment, Quoted, Digit, Name, Fallback}
@@ -65,6 +65,9 @@ past (k ∷ ks) (c ∷ t) = if c == k then past ks t else None
 abbrev pub past_byte : ℕ → Text → Option Text
 past_byte k [] = None
 past_byte k (c ∷ t) = if c == k then Some t else None
+
+abbrev pub begins_with : ℕ → Text → Bool
+begins_with k t = is_some (past_byte k t)
 
 -- blanks, and a comment
 unfoldable pub past_comment : Text → Text

@@ -1,9 +1,9 @@
 -- Redirections (POSIX.1, 2.7).
 use Rattle.std.specs.Prelude.{ℕ, List, [], ◌∷◌, Option, Some, None, Bool, ◌==◌, ◌||◌, ◌&&◌, ◌-◌, not, if◌then◌else◌}
-use Rattle.ap_shparse.specs.Bytes.{Text, after, ends_word, past_byte}
+use Rattle.ap_shparse.specs.Bytes.{begins_with, Text, after, ends_word, past_byte}
 use Rattle.ap_shparse.specs.Reads.{Outcome, and_then, if_eaten, pure}
 use Rattle.ap_shparse.specs.Places.{Place, at_text, here, lift}
-use Rattle.ap_shparse.specs.Words.{begins_with, plain_word}
+use Rattle.ap_shparse.specs.Words.{plain_word}
 use Rattle.ap_shparse.specs.declared.class.Class.TheVariants.{Blank, Digit}
 use Rattle.ap_shparse.specs.declared.redirect.Operator.{Operator}
 use Rattle.ap_shparse.specs.declared.redirect.Operator.TheVariants as op

@@ -1,6 +1,6 @@
 -- Words and assignments (POSIX.1, 2.3, 2.4 and 2.9.1).
 use Rattle.std.specs.Prelude.{ℕ, List, [], ◌∷◌, Some, None, Bool, false, ◌==◌, ◌||◌, ◌&&◌, not, if◌then◌else◌, is_some}
-use Rattle.ap_shparse.specs.Bytes.{Text, after, is_among, is_plain, past, past_byte}
+use Rattle.ap_shparse.specs.Bytes.{begins_with, Text, after, is_among, is_plain, past, past_byte}
 use Rattle.ap_shparse.specs.Reads.{Outcome, and_then, if_eaten, pure}
 use Rattle.ap_shparse.specs.Pieces.{begins_name, expect, name, parts_of, pieces}
 use Rattle.ap_shparse.specs.Places.{bracket}
@@ -37,9 +37,6 @@ plain_word sub t = if_eaten (past bracket t) (pure (text_word bracket)) (if_eate
 -- an assignment's value has no `~` outside quotes
 unfoldable pub value : (Text → Outcome Text Simple) → Text → Outcome Text Word
 value sub t = and_then (pieces sub t) (λ f u. if f.tilde then None else Some (word.Parts (parts_of f), u))
-
-abbrev pub begins_with : ℕ → Text → Bool
-begins_with k t = is_some (past_byte k t)
 
 unfoldable pub is_assignment : Text → Bool
 is_assignment t = begins_name t && begins_with 61 (after Name t)

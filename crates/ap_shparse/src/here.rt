@@ -1,5 +1,5 @@
 //! Here-documents.
-ghost use Rattle.std.specs.Prelude.{◌≡◌, length, option_map, true};
+ghost use Rattle.std.specs.Prelude.{◌≡◌, [], length, option_map};
 ghost use Rattle.ap_shparse.specs.Bytes as bytes;
 ghost use Rattle.ap_shparse.specs.Places as spec;
 ghost use Rattle.ap_shparse.specs.Reads.{Eats, Lends, Reads};
@@ -8,11 +8,9 @@ use crate::class::Class;
 use crate::lines::Lines;
 use crate::pieces::{Substitution, Words};
 use crate::refusal::Refusal;
-use crate::text::Text;
+use crate::text::{ENDERS, Text};
 use sqlite_items::Items;
 use std::alloc::Global;
-
-const OPERATORS: &[u8] = b"&();<>|";
 
 const ARGS: &[u8] = b"\"$@\"";
 
@@ -43,27 +41,25 @@ fn delimiter<'a>(text: &mut Text<'a>) -> Result<&'a [u8], Refusal>
     Err(Refusal::Outside)
 }
 
-// The newline of a closing line, which may end with the text.
-fn closing(text: &mut Text<'_>) -> Result<(), Refusal>
-    ensures { Reads (spec.closing true text.old) result text.new }
+// From the newline before the body to the end of its closing line.
+#[tactic(auto, unfolding(crate::specs::Places::body))]
+fn body(alloc: Global, text: &mut Text<'_>, delimiter: &[u8]) -> Result<Items<u8>, Refusal>
+    ensures { Reads (spec.body delimiter.now text.old) result text.new }
 {
-    if text.is_empty() {
-        return Ok(());
-    }
-    text.expect(b'\n')
+    text.expect(b'\n')?;
+    let turns = text.len();
+    lines_before(alloc, text, delimiter, turns)
 }
 
 // The lines before the one that is the delimiter.
-#[tactic(auto, unfolding(crate::specs::Places::body, crate::specs::Places::body_from))]
-fn body(alloc: Global, text: &mut Text<'_>, delimiter: &[u8]) -> Result<Items<u8>, Refusal>
-    ensures { Reads (spec.body true delimiter.now text.old) result text.new }
+#[tactic(auto, unfolding(crate::specs::Places::body_from))]
+fn lines_before(alloc: Global, text: &mut Text<'_>, delimiter: &[u8], turns: usize) -> Result<Items<u8>, Refusal>
+    ensures { Reads (spec.body_from delimiter.now turns [] text.old) result text.new }
 {
-    let turns = text.len();
     let mut found = Items::new(alloc);
     for _turn in 0..turns {
         let line = text.run(Class::Comment);
         if line == delimiter {
-            closing(text)?;
             return Ok(found);
         }
         text.expect(b'\n')?;
@@ -74,7 +70,7 @@ fn body(alloc: Global, text: &mut Text<'_>, delimiter: &[u8]) -> Result<Items<u8
 }
 
 impl<S: Substitution> Words<S> {
-    // An operator's byte, or a word.
+    // A byte that no word holds, or a word.
     #[tactic(auto, unfolding(crate::specs::Places::token))]
     fn token(&self, text: &mut Text<'_>) -> Result<(), Refusal>
         ensures { Reads (spec.token (S.reads self.now.sub) text.old) result text.new }
@@ -82,8 +78,8 @@ impl<S: Substitution> Words<S> {
         let Some(byte) = text.first() else {
             return Err(Refusal::Outside);
         };
-        if OPERATORS.contains(&byte) {
-            let _operator = text.next();
+        if ENDERS.contains(&byte) {
+            let _byte = text.next();
             return Ok(());
         }
         if eat_lone(text) {
@@ -93,7 +89,7 @@ impl<S: Substitution> Words<S> {
         Ok(())
     }
 
-    // Goes behind the next newline that isn't part of a word.
+    // Goes to the next newline that isn't part of a word.
     #[tactic(auto, unfolding(crate::specs::Places::line, crate::specs::Places::line_from))]
     fn line(&self, text: &mut Text<'_>) -> Result<(), Refusal>
         ensures { Reads (spec.line (S.reads self.now.sub) text.old) result text.new }
@@ -101,7 +97,7 @@ impl<S: Substitution> Words<S> {
         let turns = text.len();
         for _turn in 0..turns {
             text.gap();
-            if text.eat(b'\n') {
+            if text.sees_byte(b'\n') {
                 return Ok(());
             }
             self.token(text)?;
@@ -122,7 +118,7 @@ impl<S: Substitution> Words<S> {
         Ok(found)
     }
 
-    // Goes behind the bodies of the line's other here-documents.
+    // Goes to the end of the bodies of the line's other here-documents.
     fn to_bodies<'a>(&self, text: &mut Text<'a>, bodies: Option<&'a [u8]>) -> Result<(), Refusal>
         ensures { Reads (spec.or_line (S.reads self.now.sub) text.old (option_map (λ b. b.now) bodies.entry)) result text.new }
     {

@@ -1,9 +1,9 @@
 //! Where a reading stands in a text.
 ghost use Rattle.std.specs.Prelude.{◌≡◌, length, Some};
 ghost use Rattle.ap_shparse.specs.Bytes as bytes;
-ghost use Rattle.ap_shparse.specs.Places.{at_text, newlines, next_line, past_newline, Place};
+ghost use Rattle.ap_shparse.specs.Places.{at_text, newlines, next_line, past_newline, waits, Place};
 ghost use Rattle.ap_shparse.specs.Commands.{alone, is_nil};
-ghost use Rattle.ap_shparse.specs.Scripts.{left_at, waits};
+ghost use Rattle.ap_shparse.specs.Scripts.{left_at};
 ghost use Rattle.ap_shparse.specs.Reads.{Eats, Goes, Reads};
 ghost use Rattle.ap_shparse.specs.Lists.{ended, keyword};
 
@@ -16,17 +16,17 @@ use std::marker::Model;
 #[derive(Drop)]
 pub(crate) struct Lines<'a> {
     pub(crate) text: Text<'a>,
-    /// What is left behind the bodies that were taken from below this line.
+    /// Where the bodies that were taken from below this line end.
     pub(crate) bodies: Option<&'a [u8]>,
 }
 
 impl<'a> Model for Lines<'a> {
-    ghost use Rattle.std.specs.Prelude.{option_map, true};
+    ghost use Rattle.std.specs.Prelude.{option_map};
     ghost use Rattle.ap_shparse.specs.Places.{Place};
 
     ghost Value = { Place };
 
-    ghost view = { λ l. record { text = l.text; bodies = option_map (λ b. b.now) l.bodies; open_end = true } };
+    ghost view = { λ l. record { text = l.text; bodies = option_map (λ b. b.now) l.bodies } };
 }
 
 impl<'a> Lines<'a> {
@@ -92,7 +92,7 @@ impl<'a> Lines<'a> {
         ensures { self.new ≡ next_line self.old self.old.text }
     {
         if let Some(bodies) = self.bodies {
-            self.text = Text::new(bodies);
+            self.text = self.text.last(bodies.len().saturating_sub(1));
             self.bodies = None;
         }
     }

@@ -1,9 +1,9 @@
 //! What is left of a text.
 ghost use Rattle.std.specs.Prelude.{◌≡◌, length, slice_get, option_map, [], ◌∷◌, MatchOption, IsTrue, ◌↔◌};
 ghost use Rattle.std.specs.Option.{option_copied};
-ghost use Rattle.ap_shparse.specs.Bytes.{run, after, gap, ends_word, past, past_byte};
+ghost use Rattle.ap_shparse.specs.Bytes.{begins_with, run, after, gap, ends_word, past, past_byte};
 ghost use Rattle.ap_shparse.specs.Reads.{Eats, Reads};
-ghost use Rattle.ap_shparse.specs.Words.{begins_with};
+ghost use Rattle.ap_shparse.specs.Places.{last};
 ghost use Rattle.ap_shparse.specs.Commands.{sees};
 ghost use Rattle.ap_shparse.specs.Lists.{past_twice};
 ghost use Rattle.ap_shparse.specs.Pieces.{begins_name, expect};
@@ -25,7 +25,8 @@ impl<'a> Model for Text<'a> {
     ghost view = { λ t. t.rest.now };
 }
 
-const ENDERS: &[u8] = b"\t\n &();<>|";
+/// What may stand behind a word.
+pub(crate) const ENDERS: &[u8] = b"\t\n &();<>|";
 
 impl<'a> Text<'a> {
     pub(crate) fn new(text: &'a [u8]) -> Text<'a>
@@ -50,6 +51,15 @@ impl<'a> Text<'a> {
         ensures { IsTrue result ↔ (self.now ≡ []) }
     {
         self.rest.is_empty()
+    }
+
+    /// So many of the last bytes.
+    pub(crate) fn last(&self, count: usize) -> Text<'a>
+        ensures { result ≡ last count self.now }
+    {
+        Text {
+            rest: &self.rest[self.rest.len().saturating_sub(count)..],
+        }
     }
 
     /// Takes the byte that comes next.
