@@ -213,7 +213,7 @@ eats_nothing = record { past = some; none = nothing }
     nothing : (t b c : Text) → past [] (t ++ b) ≡ None → Has t → past [] (t ++ c) ≡ None
     nothing t b c e h = no_end (ends_word (t ++ b)) t b c refl e h
 
-is_same : (c k : ℕ) → (c == k) ≡ true → is_stop k ≡ false → is_stop c ≡ false
+pub is_same : (c k : ℕ) → (c == k) ≡ true → is_stop k ≡ false → is_stop c ≡ false
 is_same c k e l = grind (arith, nat_tests)
 
 eats_more : (k : ℕ) (ks : List ℕ) → is_stop k ≡ false → Eating 0 (past ks) → Eating 1 (past (k ∷ ks))

@@ -9,7 +9,7 @@ use Rattle.ap_shparse.specs.Pieces.{expect, pieces}
 use Rattle.ap_shparse.specs.Places.{args, body, body_from, bracket, delimiter, is_delimiter, line, line_from, lone, token}
 use Rattle.ap_shparse.specs.declared.class.Class.TheVariants.{Comment, Quoted}
 use Rattle.ap_shparse.specs.declared.tree.Simple.{Simple}
-use Rattle.ap_shparse.proofs.Keeps.{Eating, Has, IsTest, Kept, KeptPast, Keeps, Takes, both_of, ends_word_same, keeps_if, keeps_never, keeps_pure, keeps_takes, keeps_then, kept_less, left_of, never, right_of, takes_if_eaten, takes_then}
+use Rattle.ap_shparse.proofs.Keeps.{Eating, Has, IsTest, Kept, KeptPast, Keeps, Takes, both_of, ends_word_same, inner, keeps_if, keeps_never, keeps_pure, keeps_takes, keeps_then, kept_less, left_of, never, right_of, takes_if_eaten, takes_then}
 use Rattle.ap_shparse.proofs.KeptRuns.{keeps_taking, kept_gap, kept_run, taking}
 use Rattle.ap_shparse.proofs.KeptPieces.{keeps_expect, keeps_pieces, longer, never_some, one_of, takes_expect, takes_pieces}
 use Rattle.ap_shparse.proofs.KeptWords.{begins_with_same, eats_args, eats_bracket}
@@ -175,6 +175,9 @@ keeps_line sub k x a r b e g =
 is_ten : (y : ℕ) → (y == 10) ≡ true → y ≡ 10
 is_ten y e = grind (arith, nat_tests)
 
+is_semi : (y : ℕ) → (y == 59) ≡ true → y ≡ 59
+is_semi y e = grind (arith, nat_tests)
+
 pub record KeptBody (d f : Text) (x a r b : Text) : Type 0 where
   pub front : Text
   pub spelling : x ≡ front ++ b
@@ -246,3 +249,11 @@ whole_body d x a r b e g =
       eats = omega (arith, m.eats);
       same = λ c. m.same c (length (m.front ++ c)) (longer m.front c);
     }
+
+pub past_semi : (t u : Text) → past_byte 59 t ≡ Some u → t ≡ 59 ∷ u
+past_semi [] u e = cc
+past_semi (c ∷ t) u e = by_byte (c == 59) refl e
+  where
+    by_byte : (v : Bool) → (c == 59) ≡ v → (if v then Some t else None) ≡ Some u → c ∷ t ≡ 59 ∷ u
+    by_byte true is e = ap₂ (λ y z. y ∷ z) (is_semi c is) (inner t u e)
+    by_byte false is e = cc

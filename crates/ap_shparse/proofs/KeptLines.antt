@@ -68,7 +68,7 @@ fits (Some z) t u b e h =
     let l : length u ≡ length t - (length t - (length z - 1)) = ap length (sym e) ∙ length-drop (length t - (length z - 1)) t in
     elim h [ inl x ↦ omega (arith, l, x) | inr x ↦ omega (arith, l, x.0, x.1) ]
 
-has_some : (r b : Text) → Has r → length b < length (r ++ b)
+pub has_some : (r b : Text) → Has r → length b < length (r ++ b)
 has_some [] b h = absurd h
 has_some (c ∷ r) b h = omega (arith, length-append r b)
 

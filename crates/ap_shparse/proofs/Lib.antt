@@ -7,3 +7,6 @@ pub mod KeptHere
 pub mod KeptPlaces
 pub mod KeptLines
 pub mod KeptCommands
+pub mod KeptItems
+pub mod ItemLemmas
+pub mod GapLemmas

@@ -3,7 +3,7 @@ use Rattle.std.specs.Prelude.{ℕ, zero, suc, List, [], ◌∷◌, ◌++◌, Opt
 use Rattle.ap_shparse.specs.Bytes.{begins_with, Text, after, ends_word, past, run}
 use Rattle.ap_shparse.specs.Reads.{Outcome, and_then, if_eaten, pure}
 use Rattle.ap_shparse.specs.Pieces.{expect}
-use Rattle.ap_shparse.specs.Places.{Place, args, at_text}
+use Rattle.ap_shparse.specs.Places.{Place, args, at_text, waits}
 use Rattle.ap_shparse.specs.Words.{assignment, is_assignment, plain_word}
 use Rattle.ap_shparse.specs.Redirects.{next_operator, number, redirects, target_of}
 use Rattle.ap_shparse.specs.declared.class.Class.TheVariants.{Blank, Digit}
@@ -23,10 +23,10 @@ use Rattle.ap_shparse.specs.declared.tree.Word.TheVariants as word
 abbrev pub sees : Text → Text → Bool
 sees k t = is_some (past k t)
 
--- ---- what was found of a command so far; `here` says that no here-document may follow
+-- ---- what was found of a command so far; `here` says whether there is a here-document
 
-abbrev pub no_elements : Bool → Elements
-no_elements here = record { assigns = []; words = []; redirections = []; here = here; calls = calls.Other; more = false }
+abbrev pub no_elements : Elements
+no_elements = record { assigns = []; words = []; redirections = []; here = false; calls = calls.Other; more = false }
 
 abbrev pub is_nil : {A : Type 0} → List A → Bool
 is_nil [] = true
@@ -117,10 +117,9 @@ stops calls.Other more = false
 abbrev pub called : Elements → Called
 called e = record { simple = roll-Simple (record { assigns = e.assigns; words = e.words; redirections = e.redirections }); leaves = leaves e.calls; stops = stops e.calls e.more }
 
--- here: no here-document may stand in it
-unfoldable pub simple : (Text → Outcome Text Simple) → Bool → Place → Outcome Place Called
-simple sub here p = if is_reserved p.text then None
-    else and_then (elements sub (length p.text) (no_elements here) p) (λ e q. if is_empty e then None else Some (called e, q))
+unfoldable pub simple : (Text → Outcome Text Simple) → Place → Outcome Place Called
+simple sub p = if is_reserved p.text then None
+    else and_then (elements sub (length p.text) no_elements p) (λ e q. if is_empty e then None else Some (called e, q))
 
 -- ---- command substitution (POSIX.1, 2.6.3)
 
@@ -130,7 +129,7 @@ no_substitution t = None
 abbrev pub alone : Text → Place
 alone t = record { text = t; bodies = None }
 
--- behind `$(`
+-- behind `$(`: a simple command other than `exit` and `exec`, without a here-document
 unfoldable pub substitution : Text → Outcome Text Simple
-substitution t = and_then (simple no_substitution true (alone (after Blank t)))
-    (λ c p. if c.leaves then None else and_then (expect 41 p.text) (λ _. pure c.simple))
+substitution t = and_then (simple no_substitution (alone (after Blank t)))
+    (λ c p. if c.leaves || waits p then None else and_then (expect 41 p.text) (λ _. pure c.simple))

@@ -9,3 +9,4 @@ pub mod Lists
 pub mod Nests
 pub mod Scripts
 pub mod Grammar
+pub mod Fronts

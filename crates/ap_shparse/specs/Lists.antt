@@ -18,7 +18,7 @@ Lists = Place → Outcome Place (List Chain)
 -- ---- commands
 
 abbrev pub simple_member : Place → Outcome Place Member
-simple_member p = and_then (simple substitution false p) (λ c. pure (record { node = node.Simple c.simple; stops = c.stops }))
+simple_member p = and_then (simple substitution p) (λ c. pure (record { node = node.Simple c.simple; stops = c.stops }))
 
 abbrev pub keyword : Text → Place → Outcome Place (Unit {0})
 keyword k p = lift (λ t. eaten (past k t)) p

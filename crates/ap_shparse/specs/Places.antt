@@ -13,6 +13,10 @@ pub record Place : Type 0 where
   pub text : Text
   pub bodies : Option Text
 
+-- whether a here-document waits for the next newline
+abbrev pub waits : Place → Bool
+waits p = is_some p.bodies
+
 abbrev pub at_text : Place → Text → Place
 at_text p t = record p { text = t }
 

@@ -2,7 +2,7 @@
 use Rattle.std.specs.Prelude.{◌≡◌, ℕ, zero, suc, List, [], ◌∷◌, ◌++◌, Some, None, Result, Ok, Err, Bool, ◌&&◌, ◌-◌, not, if◌then◌else◌, length, is_some, min}
 use Rattle.ap_shparse.specs.Bytes.{Text}
 use Rattle.ap_shparse.specs.Reads.{Outcome, and_then, if_eaten}
-use Rattle.ap_shparse.specs.Places.{Place, newlines, past_gap}
+use Rattle.ap_shparse.specs.Places.{Place, newlines, past_gap, waits}
 use Rattle.ap_shparse.specs.Commands.{alone, is_nil}
 use Rattle.ap_shparse.specs.Lists.{chain, ended, list}
 use Rattle.ap_shparse.specs.declared.item.Item.{Item}
@@ -11,10 +11,6 @@ use Rattle.ap_shparse.specs.declared.script.Turn.TheVariants as turned
 use Rattle.ap_shparse.specs.declared.tree.Chain.{Chain}
 use Rattle.ap_shparse.specs.declared.tree.ShellFault.{ShellFault}
 use Rattle.ap_shparse.specs.declared.tree.ShellFault.TheVariants as fault
-
--- whether a here-document waits for the next newline
-abbrev pub waits : Place → Bool
-waits p = is_some p.bodies
 
 -- a stopping command ends the script, where no here-document waits at its end
 abbrev pub turn_of : Item → Bool → Turn
@@ -44,7 +40,7 @@ left_at left p = if waits p then left else min left (length p.text)
 
 -- the number bounds the turns
 unfoldable pub script_from : (Place → Outcome Place Item) → ℕ → ℕ → List Chain → Place → Answer
-script_from item zero left found p = Ok found
+script_from item zero left found p = if_eaten (newlines p) (λ q. if is_nil q.text && not (waits q) then Ok found else Err (left_at left q)) (Err left)
 script_from item (suc n) left found p =
     if_eaten (newlines p) (λ q. by_turn (script_from item n) (left_at left q) found (turn item q)) (Err left)
 

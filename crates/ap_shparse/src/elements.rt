@@ -20,7 +20,7 @@ pub(crate) struct Elements {
     pub(crate) assigns: Items<Assign>,
     pub(crate) words: Items<Word>,
     pub(crate) redirections: Items<Redirection>,
-    /// Whether no here-document may follow.
+    /// Whether there is a here-document, of which a command has one at most.
     pub(crate) here: bool,
     pub(crate) calls: Calls,
     /// Whether a word other than `"$@"` follows the first one.
@@ -38,14 +38,14 @@ pub(crate) struct Called {
 }
 
 impl Elements {
-    pub(crate) fn new(alloc: Global, here: bool) -> Elements
-        ensures { result ≡ spec.no_elements here }
+    pub(crate) fn new(alloc: Global) -> Elements
+        ensures { result ≡ spec.no_elements }
     {
         Elements {
             assigns: Items::new(alloc),
             words: Items::new(alloc),
             redirections: Items::new(alloc),
-            here,
+            here: false,
             calls: Calls::Other,
             more: false,
         }

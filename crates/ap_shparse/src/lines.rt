@@ -1,9 +1,9 @@
 //! Where a reading stands in a text.
 ghost use Rattle.std.specs.Prelude.{◌≡◌, length, Some};
 ghost use Rattle.ap_shparse.specs.Bytes as bytes;
-ghost use Rattle.ap_shparse.specs.Places.{at_text, newlines, next_line, past_newline, Place};
+ghost use Rattle.ap_shparse.specs.Places.{at_text, newlines, next_line, past_newline, waits, Place};
 ghost use Rattle.ap_shparse.specs.Commands.{alone, is_nil};
-ghost use Rattle.ap_shparse.specs.Scripts.{left_at, waits};
+ghost use Rattle.ap_shparse.specs.Scripts.{left_at};
 ghost use Rattle.ap_shparse.specs.Reads.{Eats, Goes, Reads};
 ghost use Rattle.ap_shparse.specs.Lists.{ended, keyword};
 

@@ -70,7 +70,7 @@ fn simple_member(alloc: Global, lines: &mut Lines<'_>) -> Result<Member, Refusal
         alloc,
         sub: CommandSubstitution,
     };
-    let called = words.simple(false, lines)?;
+    let called = words.simple(lines)?;
     let stops = called.stops;
     Ok(Member {
         node: Node::Simple {

@@ -113,5 +113,12 @@ pub(crate) fn script(alloc: Global, text: &[u8]) -> Result<Items<Chain>, ShellFa
             Ok(Turn::Next(chain)) => found.push(chain)?,
         }
     }
-    Ok(found)
+    if !lines.newlines() {
+        return Err(outside(turns, left));
+    }
+    left = lines.left(left);
+    if lines.is_empty() && !lines.waits() {
+        return Ok(found);
+    }
+    Err(outside(turns, left))
 }

@@ -118,11 +118,11 @@ impl<S: Substitution> Words<S> {
     }
 
     #[tactic(auto, unfolding(crate::specs::Commands::elements))]
-    fn elements(&self, here: bool, lines: &mut Lines<'_>) -> Result<Elements, Refusal>
-        ensures { Reads (spec.elements (S.reads self.now.sub) (length lines.old.text) (spec.no_elements here) lines.old) result lines.new }
+    fn elements(&self, lines: &mut Lines<'_>) -> Result<Elements, Refusal>
+        ensures { Reads (spec.elements (S.reads self.now.sub) (length lines.old.text) spec.no_elements lines.old) result lines.new }
     {
         let turns = lines.text.len();
-        let mut found = Elements::new(self.alloc, here);
+        let mut found = Elements::new(self.alloc);
         for _turn in 0..turns {
             lines.blanks();
             if ends_command(&lines.text) {
@@ -137,15 +137,15 @@ impl<S: Substitution> Words<S> {
         Err(Refusal::Outside)
     }
 
-    /// A simple command; with `here` it has no here-document.
+    /// A simple command.
     #[tactic(auto, unfolding(crate::specs::Commands::simple))]
-    pub(crate) fn simple(&self, here: bool, lines: &mut Lines<'_>) -> Result<Called, Refusal>
-        ensures { Reads (spec.simple (S.reads self.now.sub) here lines.old) result lines.new }
+    pub(crate) fn simple(&self, lines: &mut Lines<'_>) -> Result<Called, Refusal>
+        ensures { Reads (spec.simple (S.reads self.now.sub) lines.old) result lines.new }
     {
         if is_reserved(&lines.text) {
             return Err(Refusal::Outside);
         }
-        let found = self.elements(here, lines)?;
+        let found = self.elements(lines)?;
         if found.is_empty() {
             return Err(Refusal::Outside);
         }
@@ -180,8 +180,8 @@ impl Substitution for CommandSubstitution {
             alloc,
             sub: NoSubstitution,
         };
-        let called = words.simple(true, &mut lines)?;
-        if called.leaves {
+        let called = words.simple(&mut lines)?;
+        if called.leaves || lines.waits() {
             return Err(Refusal::Outside);
         }
         lines.text.expect(b')')?;

@@ -1,4 +1,6 @@
 // Which texts are scripts, and which script each is, as `show` writes it.
+mod dispatch;
+mod given;
 mod shell;
 mod show;
 mod statements;

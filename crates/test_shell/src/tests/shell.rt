@@ -1,5 +1,6 @@
 // What scripts do, and how they end: each command with each of its statuses, and the rules of words, redirections,
 // assignments and lists (POSIX.1, 2).
+use super::given::{arguments, end_text};
 use ap_shell::{Env, Files, Host, HostFile, Outcome, run_script};
 use ap_shparse::{Nul, ShellFault};
 use sqlite_items::Items;
@@ -226,9 +227,7 @@ fn runs(rt: &impl Abort, alloc: Global, told: &Told) -> Result<(), Fail> {
 }
 
 fn env_of(alloc: Global, told: &Told) -> Result<Env, AllocError> {
-    let mut args = Items::new(alloc);
-    args.push(Items::from_slice(alloc, b"1")?)?;
-    args.push(Items::from_slice(alloc, b"2 3")?)?;
+    let args = arguments(alloc)?;
     let tmpdir = match told.2 {
         Some(text) => Some(Items::from_slice(alloc, text)?),
         None => None,
@@ -264,27 +263,7 @@ fn shown(
     ended: &Result<Outcome, ShellFault>,
     host: &Host,
 ) -> Result<Vec<u8>, AllocError> {
-    let mut shown = Vec::new(alloc);
-    match ended {
-        Ok(Outcome::Exits { status }) => {
-            let line = format!(in alloc; "exits {status}")?;
-            shown.extend_from_slice(line.as_bytes())?;
-        }
-        Ok(Outcome::Execs { path, words }) => {
-            shown.extend_from_slice(b"execs ")?;
-            shown.extend_from_slice(path.as_slice())?;
-            for word in words.as_slice() {
-                shown.extend_from_slice(b" [")?;
-                shown.extend_from_slice(word.as_slice())?;
-                shown.extend_from_slice(b"]")?;
-            }
-        }
-        Err(ShellFault::Outside { at }) => {
-            let line = format!(in alloc; "outside {at}")?;
-            shown.extend_from_slice(line.as_bytes())?;
-        }
-        Err(ShellFault::NoMemory) => shown.extend_from_slice(b"no memory")?,
-    }
+    let mut shown = end_text(alloc, ended)?;
     if !host.out.is_empty() {
         shown.extend_from_slice(b", out ")?;
         shown.extend_from_slice(host.out.as_slice())?;
