@@ -90,12 +90,16 @@ impl Files for Sparse {
 fn taken(rt: &impl Abort, program: Program, number: u8) -> Result<Input, CheckEnd>
     ensures { IfOk result (λ i. i.number ≡ number) }
 {
+    check_input_in(&mut file_of(rt, program), "a", number)
+}
+
+/// The file of a program.
+fn file_of(rt: &impl Abort, program: Program) -> Sparse {
     let (size, machine, entry, rows) = program;
-    let mut files = Sparse {
+    Sparse {
         size,
         front: front(rt, machine, entry, rows),
-    };
-    check_input_in(&mut files, "a", number)
+    }
 }
 
 /// The front of a program with these program headers.

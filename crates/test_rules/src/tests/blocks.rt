@@ -42,7 +42,10 @@ const A64_LINES: &[u8] = b"if [ \"$m\" = aarch64 ] || [ \"$m\" = arm64 ]; then\n
 #[test]
 fn each_byte_of_a_block_has_its_owners(rt: HostRuntime) -> Result<(), Fail> {
     let input = check_input(&PLAIN, 1).ok().ok_or("refused")?;
-    let job = check_all(&input, None, &linux()).ok().ok_or("refused")?;
+    assert!(rt; input.size == 144);
+    let job = check_all(&input, None, &linux(), &PLAIN)
+        .ok()
+        .ok_or("refused")?;
     let lay = place(&job);
     let mut block = Block::new();
     assert!(rt; write_tables(&mut block, &job, &lay).is_ok());
@@ -68,7 +71,8 @@ fn two_machines_stand_in_either_order(rt: HostRuntime) -> Result<(), Fail> {
     for (one, two, machines) in [(PLAIN, other(), [62, 183]), (other(), PLAIN, [183, 62])] {
         let first = check_input(&one, 1).ok().ok_or("refused")?;
         let second = check_input(&two, 2).ok().ok_or("refused")?;
-        let job = check_all(&first, Some(&second), &linux())
+        assert!(rt; first.size == 144 && second.size == 144);
+        let job = check_all(&first, Some(&second), &linux(), &PLAIN)
             .ok()
             .ok_or("refused")?;
         let lay = place(&job);
@@ -88,7 +92,10 @@ fn two_machines_stand_in_either_order(rt: HostRuntime) -> Result<(), Fail> {
 #[test]
 fn a_held_byte_is_told(rt: HostRuntime) -> Result<(), Fail> {
     let input = check_input(&PLAIN, 1).ok().ok_or("refused")?;
-    let job = check_all(&input, None, &linux()).ok().ok_or("refused")?;
+    assert!(rt; input.size == 144);
+    let job = check_all(&input, None, &linux(), &PLAIN)
+        .ok()
+        .ok_or("refused")?;
     let lay = place(&job);
     let mut block = Block::new();
     assert!(rt; block.claim(Owner::Shell, 97, &[9]).is_ok());

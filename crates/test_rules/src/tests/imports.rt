@@ -1,4 +1,6 @@
 // Rule 28, of a program whose load has an import table that names number 115 of a DLL without a name of its own.
+ghost use Rattle.std.specs.Prelude.{◌≡◌, false};
+
 use super::{Edit, Row, front};
 use ap_check::*;
 use std::process::Abort;
@@ -38,14 +40,26 @@ fn named(input: Input, symbols: [u64; 4]) -> Input {
         idata_end: Some(symbols[1]),
         iat: Some(symbols[2]),
         iat_end: Some(symbols[3]),
-        ..Symbols::default()
+        pe_entry: Some(LOAD.3),
+        mach_entry: None,
+        image_base: Some(BASE),
     };
     input
 }
 
+fn windows() -> Options
+    ensures debug { result.debug ≡ false }
+    ensures systems { result.systems.0 ≡ 8 }
+{
+    Options {
+        systems: Systems::WINDOWS,
+        debug: false,
+    }
+}
+
 fn checked(rt: &impl Abort, input: &Input, file: &[u8]) -> Option<(u16, u64)> {
-    assert!(rt; input.size == file.len() as u64);
-    let fault = check_imports(input, BASE, file).err()?;
+    assert!(rt; input.number == 1 && input.size == file.len() as u64);
+    let fault = check_all(input, None, &windows(), file).err()?;
     assert!(rt; fault.rule == 28 && fault.input == 1);
     Some((fault.item, fault.value))
 }

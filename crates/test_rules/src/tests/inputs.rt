@@ -123,7 +123,8 @@ fn two_inputs_are_for_two_machines(rt: HostRuntime) -> Result<(), Fail> {
     let options = linux();
     let first = check_input(&PLAIN, 1).ok().ok_or("refused")?;
     let second = check_input(&other(), 2).ok().ok_or("refused")?;
-    let job = check_all(&first, Some(&second), &options)
+    assert!(rt; first.size == 144 && second.size == 144);
+    let job = check_all(&first, Some(&second), &options, &PLAIN)
         .ok()
         .ok_or("refused")?;
     assert!(rt; job.second.map(|i| i.machine) == Some(Machine::A64));
@@ -135,7 +136,8 @@ fn two_inputs_are_for_two_machines(rt: HostRuntime) -> Result<(), Fail> {
 fn two_inputs_are_not_for_one_machine(rt: HostRuntime) -> Result<(), Fail> {
     let first = check_input(&PLAIN, 1).ok().ok_or("refused")?;
     let second = check_input(&PLAIN, 2).ok().ok_or("refused")?;
-    let found = check_all(&first, Some(&second), &linux());
+    assert!(rt; first.size == 144 && second.size == 144);
+    let found = check_all(&first, Some(&second), &linux(), &PLAIN);
     let fault = Fault {
         rule: 23,
         input: 2,

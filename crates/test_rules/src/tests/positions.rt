@@ -1,6 +1,6 @@
 // The positions of the parts of linked files, and what stands in their blocks.
-use super::{LOAD, Program, Row, USUAL, entry_of, linux, taken};
-use ap_check::check_all;
+use super::{LOAD, Program, Row, USUAL, entry_of, file_of, linux, taken};
+use ap_check::check_all_in;
 use ap_claims::Block;
 use ap_elf::entries;
 use ap_layout::{Area, entry_count, place};
@@ -205,7 +205,8 @@ fn programs_are_placed_and_their_tables_written(rt: HostRuntime) -> Result<(), F
 /// Whether the parts of a linked file stand where they are wanted. `None`, where the program isn't taken.
 fn is_made(rt: &impl Abort, (program, areas, (end, total, ending), table): &Case) -> Option<bool> {
     let input = taken(rt, *program, 1).ok()?;
-    let job = check_all(&input, None, &linux()).ok()?;
+    let mut files = file_of(rt, *program);
+    let job = check_all_in(&input, None, &linux(), &mut files, "a").ok()?;
     let lay = place(&job);
     let positions = (lay.tables.as_slice(), lay.mach_at, lay.mach_len);
     assert!(rt; positions == ([96].as_slice(), 0, 0));
