@@ -4,7 +4,7 @@ use Rattle.std.specs.Prelude.{◌^◌, IfSome, IsSomeAnd}
 use Rattle.std.specs.Option.{is_some}
 use Rattle.std.proofs.lemmas.Bool.{and_parts, leb-true}
 use Rattle.std.proofs.lemmas.Bool.Decides.{nat_tests}
-use Rattle.ap_fields.specs.Granules.{floor_of, ceil_of}
+use Rattle.ap_fields.specs.Granules.{floor_of}
 use Rattle.ap_fields.specs.FirstFault.{Rules, first_fault}
 use Rattle.ap_fields.proofs.FirstFaults.{none-append, some-append, append-none}
 use Rattle.ap_files.specs.Files.{FileState}

@@ -1,5 +1,5 @@
 -- What is asked of a linked file, and what of it is taken so far.
-use Rattle.std.specs.Prelude.{◌≡◌, ◌^◌, ◌<◌, ℕ, ◌==◌, not, Bool, true, false, bit_and}
+use Rattle.std.specs.Prelude.{◌≡◌, ◌<◌, ℕ, ◌==◌, not, Bool, true, false, bit_and}
 use Rattle.ap_check.specs.declared.options.Systems.{Systems}
 use Rattle.ap_check.specs.declared.options.Options.{Options}
 

@@ -1,5 +1,5 @@
 -- What a linked file for Windows asks of its input for x86-64 (PE/COFF): rules 24 to 28.
-use Rattle.std.specs.Prelude.{◌≡◌, ℕ, ◌+◌, ◌-◌, ◌%◌, ◌^◌, ◌<◌, ◌≤◌, ◌==◌, ◌&&◌, ◌||◌, nat_le, nat_lt, if◌then◌else◌, Bool, true, false, List, [], ◌∷◌, ◌++◌, IfSome, IsSomeAnd, Option, Some, None, unwrap_or}
+use Rattle.std.specs.Prelude.{◌≡◌, ℕ, ◌+◌, ◌-◌, ◌%◌, ◌≤◌, ◌==◌, ◌&&◌, ◌||◌, nat_le, if◌then◌else◌, Bool, true, false, List, [], ◌∷◌, ◌++◌, IfSome, IsSomeAnd, Option, Some, None, unwrap_or}
 use Rattle.std.specs.Option.{is_some}
 use Rattle.ap_fields.specs.Granules.{floor_of}
 use Rattle.ap_fields.specs.FirstFault.{Rules}
@@ -7,7 +7,6 @@ use Rattle.ap_fields.specs.declared.sizes.TheConstants.{PE_SPAN}
 use Rattle.ap_elf.specs.declared.machine.Machine.TheVariants.{X64}
 use Rattle.ap_elf.specs.Machines.{granule_of, is_machine}
 use Rattle.ap_check.specs.declared.fault.Fault.{Fault}
-use Rattle.ap_check.specs.declared.load.Load.{Load}
 use Rattle.ap_check.specs.declared.symbols.Symbols.{Symbols}
 use Rattle.ap_check.specs.declared.windows.TheConstants.{BASE_GRANULE, MOST_IMAGE}
 use Rattle.ap_check.specs.declared.options.Options.{Options}

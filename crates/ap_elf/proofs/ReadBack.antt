@@ -84,10 +84,6 @@ entry_at-holds w at p fits held =
       align = number_at-holds 8 p.align (at + 48) w fits.align h7 i;
     }
 
-pub length-header_bytes : (h : Header) → length h.ident ≡ 16 → length (header_bytes h) ≡ 64
-unfolding header_bytes
-length-header_bytes h long = simp (length-append, length-bytes_of) (omega arith)
-
 pub length-entry_bytes : (p : Entry) → length (entry_bytes p) ≡ 56
 unfolding entry_bytes
 length-entry_bytes p = simp (length-append, length-bytes_of) (omega arith)

@@ -21,14 +21,6 @@ pub fetch-fails : {S T : Type 0} (old mid new : CellsState) (part : Memory → R
 fetch-fails old mid new part whole (Fault f) e h r = (r.0 ∙ e, λ m t. h m f t (r.1 m (told-before old mid m e t)))
 fetch-fails old mid new part whole ReadFault e h r = subst (λ (s : CellsState). Unreadable s new) e r
 
--- what is left of the whole, as a last call fetches it
-pub fetch-last : {T : Type 0} (old mid new : CellsState) (part : Memory → Result T WalkFault) (whole : Memory → Result T WalkFault) (result : Result T WalkEnd) → mid ≡ old
-    → ((memory : Memory) → old.told ≡ Some memory → whole memory ≡ part memory)
-    → Fetches mid new part result → Fetches old new whole result
-fetch-last old mid new part whole (Ok x) e h r = (r.0 ∙ e, λ m t. h m t ∙ r.1 m (told-before old mid m e t))
-fetch-last old mid new part whole (Err (Fault f)) e h r = (r.0 ∙ e, λ m t. h m t ∙ r.1 m (told-before old mid m e t))
-fetch-last old mid new part whole (Err ReadFault) e h r = subst (λ (s : CellsState). Unreadable s new) e r
-
 -- and a way out by `?`
 pub fetch-out : {S T : Type 0} (old mid new : CellsState) (part : Memory → Result S WalkFault) (whole : Memory → Result T WalkFault) (result : Result T WalkEnd) (e : WalkEnd) → mid ≡ old
     → ((memory : Memory) (f : WalkFault) → old.told ≡ Some memory → part memory ≡ Err f → whole memory ≡ Err f)

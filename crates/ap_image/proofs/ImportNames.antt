@@ -59,27 +59,9 @@ pub name-none : {T : Type 0} (m : Memory) (start n i : ℕ) (f : WalkFault) (G :
     → byte_at m (start + i) ≡ Err f → whole ≡ Err f
 name-none m start n i f G whole l h e = h ∙ name-more m start n i (Err f) G l e
 
--- a name that passes its length
-pub name-long : {T : Type 0} (m : Memory) (start n i : ℕ) (G : List ℕ → Result T WalkFault) (whole : Result T WalkFault) → n ≤ i → whole ≡ name_left m start n i G → whole ≡ Err (fault Long start)
-name-long m start n i G whole l h =
-    let none : n - i ≡ 0 = omega arith in
-    h ∙ ap (λ k. after (name_before m start (start + i) k) G) none
-
--- before its first byte
-pub name-start : {T : Type 0} (m : Memory) (start n : ℕ) (G : List ℕ → Result T WalkFault) → after (name_from m start start n) G ≡ name_left m start (n + 1) 0 G
-name-start m start n G =
-    let place : start + 0 ≡ start = omega arith in
-    let all : n + 1 - 0 ≡ suc n = omega arith in
-    sym (ap (λ a. after (name_before m start a (n + 1 - 0)) G) place ∙ ap (λ k. after (name_before m start start k) G) all)
-
 -- a name that is gathered byte by byte
 abbrev pub gathered : List ℕ → (List ℕ → Result (List ℕ) WalkFault)
 gathered name = λ rest. Ok (name ++ rest)
-
-pub gather-start : (m : Memory) (start n : ℕ) → name_from m start start n ≡ name_left m start (n + 1) 0 (gathered [])
-gather-start m start n =
-    let same : (r : Result (List ℕ) WalkFault) → r ≡ after r (λ rest. Ok rest) = elim [ Ok x ↦ refl | Err e ↦ refl ] in
-    same (name_from m start start n) ∙ name-start m start n (gathered [])
 
 pub gather-next : (m : Memory) (start n i b : ℕ) (name : List ℕ) (whole : Result (List ℕ) WalkFault) → i < n → whole ≡ name_left m start n i (gathered name)
     → byte_at m (start + i) ≡ Ok b → (b == 0) ≡ false → whole ≡ name_left m start n (i + 1) (gathered (name ++ b ∷ []))

@@ -1,5 +1,5 @@
 -- How long the PE headers are at most.
-use Rattle.std.proofs.Common.{◌≡◌, ℕ, ◌+◌, ◌*◌, ◌≤◌, ◌<◌, Bool, true, false, cond, List, [], ◌∷◌, length, All, Option, Some, None, arith}
+use Rattle.std.proofs.Common.{ℕ, ◌+◌, ◌*◌, ◌≤◌, Bool, true, false, cond, List, [], ◌∷◌, length, All, Option, Some, None, arith}
 use Rattle.std.specs.Prelude.{nat_lt, IfSome}
 use Rattle.std.proofs.lemmas.List.Elements.{All-head, All-tail}
 use Rattle.ap_fields.specs.Granules.{floor_of, ceil_of}
@@ -11,7 +11,7 @@ use Rattle.ap_fields.specs.declared.sizes.TheConstants.{PE_SPAN}
 use Rattle.ap_check.specs.Options.{for_windows}
 use Rattle.ap_check.specs.Inputs.{Taken, Meets}
 use Rattle.ap_check.specs.Windows.{x64_of, base_of}
-use Rattle.ap_layout.specs.declared.sizes.TheConstants.{MOST_HEADERS, MOST_SECTIONS}
+use Rattle.ap_layout.specs.declared.sizes.TheConstants.{MOST_HEADERS}
 use Rattle.ap_layout.specs.Headers.{section_count, headers_length, pe_length}
 
 either-most : (b : Bool) → cond b 2 1 ≤ 2

@@ -1,20 +1,17 @@
 -- What the positions of a linked file that fit its inputs give to those who write its parts.
 use Rattle.std.proofs.Common.{◌≡◌, ℕ, suc, ◌+◌, ◌<◌, ◌≤◌, List, [], ◌∷◌, ◌++◌, length, zero, Option, Some, None, refl, ap, ◌∙◌, sym, map, get_or, drop, subst, arith}
-use Rattle.std.specs.Prelude.{◌^◌, All}
+use Rattle.std.specs.Prelude.{All}
 use Rattle.std.proofs.lemmas.List.{drop_all, length-map}
 use Rattle.arrayvec.specs.ArrayVec.{ArrayVec}
 use Rattle.std.proofs.lemmas.List.Elements.{All-cons, All-nil, All-tail}
-use Rattle.ap_fields.specs.Granules.{IsGranule, ceil_of}
 use Rattle.ap_fields.specs.declared.sizes.TheConstants.{BLOCK}
-use Rattle.ap_check.specs.declared.load.Load.{Load}
 use Rattle.ap_elf.specs.Machines.{granule_of}
 use Rattle.ap_check.specs.declared.options.Options.{Options}
-use Rattle.ap_check.specs.Inputs.{Taken, Meets, AreLoads, inputs_of}
+use Rattle.ap_check.specs.Inputs.{Taken, inputs_of}
 use Rattle.ap_layout.specs.declared.layout.Area.{Area}
 use Rattle.ap_layout.specs.declared.sizes.TheConstants.{MOST_BODY, FILE_TOP}
-use Rattle.ap_layout.specs.Areas.{end_from, after, new_areas, ServeAll}
+use Rattle.ap_layout.specs.Areas.{end_from, after, new_areas}
 use Rattle.ap_layout.specs.Positions.{Positions, PlacedInput, Fits, AreServed, AreTables, tables_start, table_length, placed, placed_inputs, only_inputs, all_areas}
-use Rattle.ap_layout.proofs.Rounded.{granule_of-is}
 use Rattle.ap_layout.proofs.NewAreas.{end-least}
 use Rattle.ap_layout.proofs.Fitting.{serve-same}
 use Rattle.ap_layout.specs.Jobs.{IsKnown}

@@ -3,7 +3,6 @@ use Rattle.std.proofs.Common.{◌≡◌, ◌≢◌, inl, inr, ℕ, Bool, true, f
 use Rattle.ap_fields.specs.FirstFault.{Rules, first_fault}
 use Rattle.ap_files.specs.Files.{FileMap, FileState, ForFile, with_file, told_bytes}
 use Rattle.ap_files.specs.Reads.{HasFile, ReadFails}
-use Rattle.ap_claims.specs.Blocks.{BlockState}
 use Rattle.ap_elf.specs.declared.machine.Machine.TheVariants.{X64}
 use Rattle.ap_elf.specs.Machines.{is_machine}
 use Rattle.ap_check.specs.declared.end.CheckEnd.{CheckEnd}
@@ -21,13 +20,11 @@ use Rattle.ap_check.proofs.Pairs.{pair-says}
 use Rattle.ap_layout.specs.Positions.{Positions, positions_of}
 use Rattle.ap_script.specs.Blocks.{block_of}
 use Rattle.ap_link.specs.declared.end.LinkEnd.{LinkEnd}
-use Rattle.ap_link.specs.declared.end.LinkEnd.TheVariants as end
 use Rattle.ap_link.specs.declared.source.Source.{Source}
 use Rattle.ap_link.specs.Linked.{block_for, tail_of}
 use Rattle.ap_link.specs.LinkedClaims.{linked_of}
 use Rattle.ap_link.specs.Answers.{IsLinked}
 use Rattle.ap_link.specs.FileAnswers.{HasInputs, AreRefused, AreUnread, HasLinkedPart, LinksFiles}
-use Rattle.ap_link.specs.Lent.{LendsToFiles}
 use Rattle.ap_link.specs.Sources.{second_name, second_taken, second_bytes, second_told, tail_told, x64_name, AreReadable, IsSource, end_of_check, end_of_fault}
 use Rattle.ap_link.proofs.LinkedFiles.{both-linkable, file-linked, file-length, linked-is}
 
@@ -212,12 +209,6 @@ links-unchecked T options old new first second out name (check.Rule f) h k is to
     let says = subst (λ n. ForFile old.kept n (λ b. first_fault (pair_rules options first.input.now (second_taken second) b) ≡ Some f)) is told.1 in
     (told.0, refused-by options old.kept first second f (sources-passed options old.kept first second (Some f) h k says))
 links-unchecked T options old new first second out name check.ReadFault h k is told = inl (unread old new first.name.now (second_name second) told)
-
--- and the block that was lent stays
-pub lends-unchecked : (T : Type 0) (options : Options) (old new : FileState) (block : BlockState) (name : List ℕ) (first : List ℕ) (second : Option (List ℕ)) (rules : List ℕ → Rules Fault) (end : CheckEnd)
-    → ChecksTold {T = T} old new name rules (Err end) → LendsToFiles options old.kept block block first second (Err (end_of_check end))
-lends-unchecked T options old new block name first second rules (check.Rule f) told = refl
-lends-unchecked T options old new block name first second rules check.ReadFault told = inl refl
 
 -- ---- what a job gives, by its inputs
 

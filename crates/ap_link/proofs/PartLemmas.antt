@@ -1,6 +1,5 @@
 -- The parts of an input that are copied one behind the other.
 use Rattle.std.proofs.Common.{◌≡◌, ℕ, ◌+◌, ◌-◌, ◌≤◌, List, ◌++◌, sym, ap, ◌∙◌, arith}
-use Rattle.ap_fields.specs.Bytes.{listed}
 use Rattle.ap_fields.specs.Readings.{bytes_in}
 use Rattle.ap_link.specs.Sources.{part_of}
 use Rattle.ap_image.proofs.RegionBytes.{listed-append}

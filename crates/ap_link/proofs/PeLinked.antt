@@ -1,11 +1,10 @@
 -- A linked file for Windows has the PE headers of its input for x86-64.
-use Rattle.std.proofs.Common.{◌≡◌, ◌≢◌, inl, inr, ℕ, ◌+◌, ◌<◌, ◌≤◌, true, cond, List, [], ◌∷◌, ◌++◌, length, Option, Some, None, refl, sym, ap, ◌∙◌, subst, arith}
+use Rattle.std.proofs.Common.{◌≡◌, inl, inr, ℕ, ◌+◌, ◌≤◌, true, cond, List, [], ◌++◌, Option, Some, refl, sym, ap, ◌∙◌, subst}
 use Rattle.std.specs.Prelude.{All, IsSomeAnd}
 use Rattle.std.specs.Option.{option_map}
 use Rattle.ap_fields.specs.Bytes.{Holds}
-use Rattle.ap_fields.specs.declared.sizes.TheConstants.{BLOCK, PE_SPAN}
+use Rattle.ap_fields.specs.declared.sizes.TheConstants.{PE_SPAN}
 use Rattle.ap_claims.specs.Lists.{Claim, Among}
-use Rattle.ap_claims.specs.Files.{IsFile}
 use Rattle.ap_claims.proofs.Growing.{among-front, holds-front}
 use Rattle.ap_elf.specs.declared.types.Entry.{Entry}
 use Rattle.ap_elf.specs.declared.machine.Machine.{Machine}
@@ -14,16 +13,13 @@ use Rattle.ap_elf.specs.Machines.{granule_of}
 use Rattle.ap_check.specs.declared.options.Options.{Options}
 use Rattle.ap_check.specs.Options.{for_windows}
 use Rattle.ap_check.specs.Inputs.{Taken, Meets, first_start, last_stop}
-use Rattle.ap_check.specs.Windows.{x64_of, base_of, pe_entry_of, MeetsWindows}
+use Rattle.ap_check.specs.Windows.{x64_of, base_of, MeetsWindows}
 use Rattle.ap_layout.specs.Positions.{Positions, PlacedInput, Fits, placed_inputs}
 use Rattle.ap_layout.specs.Jobs.{placed_for}
-use Rattle.ap_pe.specs.Claims.{mark_bytes, place_bytes, pe_claims}
-use Rattle.ap_pe.specs.Written.{pe_headers}
 use Rattle.ap_pe.specs.Linked.{program_of, claims_of, windows_claims}
 use Rattle.ap_pe.proofs.LinkedHeaders.{found-in}
 use Rattle.ap_pe.proofs.Programs.{entry-within}
 use Rattle.ap_script.specs.Blocks.{block_of}
-use Rattle.ap_script.specs.Claims.{block_claims}
 use Rattle.ap_script.specs.Stands.{MachinesDiffer, IsOneOf}
 use Rattle.ap_script.proofs.Claimed.{block-claimed}
 use Rattle.ap_script.proofs.InputStatements.{placed_for-input}

@@ -1,9 +1,8 @@
 -- What of a linked file is for Windows: how long it is, and that it leaves zeros.
-use Rattle.std.proofs.Common.{◌≡◌, ℕ, suc, ◌+◌, ◌-◌, ◌*◌, ◌%◌, ◌^◌, ◌<◌, ◌≤◌, ◌==◌, ◌&&◌, nat_le, nat_lt, inl, inr, Bool, true, false, cond, List, [], ◌∷◌, ◌++◌, length, Option, Some, None, refl, sym, ap, ◌∙◌, subst, arith, length-append}
+use Rattle.std.proofs.Common.{◌≡◌, ℕ, ◌+◌, ◌-◌, ◌*◌, ◌%◌, ◌^◌, ◌<◌, ◌≤◌, ◌==◌, ◌&&◌, nat_le, nat_lt, inl, inr, Bool, true, false, cond, List, [], ◌∷◌, ◌++◌, length, Option, Some, None, refl, sym, ap, ◌∙◌, subst, arith, length-append}
 use Rattle.std.specs.Prelude.{All, IfSome, IsSomeAnd}
 use Rattle.std.specs.Option.{option_map}
 use Rattle.std.proofs.lemmas.Bool.{cases_Bool, and_parts, leb-true}
-use Rattle.std.proofs.lemmas.Bool.Decides.{nat_tests}
 use Rattle.ap_fields.specs.declared.sizes.TheConstants.{BLOCK, PE_SPAN}
 use Rattle.ap_fields.specs.Granules.{floor_of, ceil_of}
 use Rattle.ap_fields.proofs.FieldReads.{length-structure}
@@ -18,7 +17,7 @@ use Rattle.ap_check.specs.declared.imports.ImportTable.{ImportTable}
 use Rattle.ap_check.specs.declared.options.Options.{Options}
 use Rattle.ap_check.specs.Options.{for_windows}
 use Rattle.ap_check.specs.Inputs.{Taken, Meets, AreLoads, first_start, last_stop}
-use Rattle.ap_check.specs.ImportRule.{table_of, are_between, AreStanding}
+use Rattle.ap_check.specs.ImportRule.{table_of, AreStanding}
 use Rattle.ap_check.specs.Windows.{x64_of, base_of, MeetsWindows}
 use Rattle.ap_layout.specs.declared.layout.Area.{Area}
 use Rattle.ap_layout.specs.Areas.{ServeAll, new_areas}
@@ -29,17 +28,14 @@ use Rattle.ap_layout.specs.Stacks.{stack_size}
 use Rattle.ap_layout.proofs.Fitting.{serve-same}
 use Rattle.ap_layout.proofs.HeaderLengths.{count-most, x64_of-all}
 use Rattle.ap_pe.specs.declared.program.Program.{Program}
-use Rattle.ap_pe.specs.Sections.{Named, filler, load_section, section_header, section_rows, section_table, sections_behind}
+use Rattle.ap_pe.specs.Sections.{Named, load_section, section_header, section_table, sections_behind}
 use Rattle.ap_pe.specs.Written.{sections_of, end_of, file_rows, file_header, optional_rows, optional_header, headers_with, pe_headers, is_code, is_data, stack_of}
 use Rattle.ap_pe.specs.Linked.{program_of, table_directory, slots_directory, headers_of, pe_text}
-use Rattle.ap_pe.proofs.HeaderZeros.{ProgramZeros, SectionsZeros, headers-sparse}
+use Rattle.ap_pe.proofs.HeaderReads.{length-section_header}
+use Rattle.ap_pe.proofs.HeaderZeros.{SectionsZeros, headers-sparse}
 use Rattle.ap_pe.proofs.SectionZeros.{sections-zeros, sum-even, first-even}
 
 -- ---- how long the headers are
-
-length-section_header : (k : ℕ) (s : Named) → length (section_header k s) ≡ 40
-unfolding section_header
-length-section_header k s = length-structure 40 (section_rows k s) refl
 
 length-section_table : (k : ℕ) (sections : List Named) → length (section_table k sections) ≡ 40 * length sections
 length-section_table k [] = refl

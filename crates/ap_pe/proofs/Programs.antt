@@ -1,21 +1,21 @@
 -- What is known of an input that is linked for Windows: its program and its directories.
-use Rattle.std.proofs.Common.{◌≡◌, inl, inr, ℕ, ◌+◌, ◌-◌, ◌<◌, ◌≤◌, ◌==◌, ◌&&◌, nat_le, nat_lt, not, Bool, true, List, [], ◌∷◌, length, Option, Some, None, refl, sym, ap, ◌∙◌, subst, arith}
-use Rattle.std.specs.Prelude.{All, IfSome, bit_and, ◌^◌}
+use Rattle.std.proofs.Common.{◌≡◌, inl, inr, ℕ, ◌+◌, ◌-◌, ◌<◌, ◌≤◌, ◌&&◌, nat_le, nat_lt, true, List, [], ◌∷◌, length, Option, Some, None, refl, sym, subst, arith}
+use Rattle.std.specs.Prelude.{All, IfSome, ◌^◌}
 use Rattle.std.proofs.lemmas.Bool.{and_parts, or_cases, leb-true}
 use Rattle.std.proofs.lemmas.Bool.Decides.{nat_tests}
-use Rattle.ap_fields.specs.Granules.{floor_of, ceil_of}
+use Rattle.ap_fields.specs.Granules.{ceil_of}
 use Rattle.ap_elf.specs.declared.machine.Machine.{Machine}
 use Rattle.ap_elf.specs.Machines.{granule_of}
 use Rattle.ap_check.specs.declared.load.Load.{Load}
 use Rattle.ap_check.specs.declared.imports.ImportTable.{ImportTable}
 use Rattle.ap_check.specs.Inputs.{Taken, Meets, IsLoad, AreLoads, has_part, in_part, has_address, is_executable, can_start, first_start, last_stop}
 use Rattle.ap_check.specs.ImportRule.{table_of, are_between, AreStanding}
-use Rattle.ap_check.specs.Windows.{base_of, pe_entry_of, loads_start, loads_stop, MeetsWindows, IsReady}
+use Rattle.ap_check.specs.Windows.{base_of, pe_entry_of, MeetsWindows, IsReady}
 use Rattle.ap_layout.specs.declared.layout.Area.{Area}
 use Rattle.ap_layout.specs.declared.sizes.TheConstants.{FILE_TOP}
 use Rattle.ap_pe.specs.declared.program.Program.{Program}
 use Rattle.ap_pe.specs.Sections.{Fit}
-use Rattle.ap_pe.specs.Written.{end_of, IsProgram}
+use Rattle.ap_pe.specs.Written.{IsProgram}
 use Rattle.ap_pe.specs.Linked.{program_of, IsRange}
 use Rattle.ap_pe.proofs.Rounding.{rounded}
 use Rattle.ap_pe.proofs.LinkedHeaders.{from-headers}

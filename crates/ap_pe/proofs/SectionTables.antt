@@ -1,5 +1,5 @@
 -- Steps along section headers.
-use Rattle.std.proofs.Common.{◌≡◌, ℕ, zero, suc, ◌+◌, ◌*◌, ◌≤◌, List, [], ◌∷◌, ◌++◌, length, take, drop, refl, ap, ◌∙◌, arith}
+use Rattle.std.proofs.Common.{◌≡◌, ℕ, zero, suc, ◌+◌, ◌*◌, ◌≤◌, List, [], ◌∷◌, ◌++◌, take, drop, refl, ap, ◌∙◌, arith}
 use Rattle.ap_elf.proofs.EntryTables.{number_at-part}
 use Rattle.ap_pe.specs.Format.{section_at, sections_from}
 
@@ -16,10 +16,6 @@ sections_from-more b n =
     ap (sections_from b 0) (let e : n + 1 ≡ suc n = omega arith in e)
     ∙ sections_from-suc b 0 n
     ∙ ap (λ k. sections_from b 0 n ++ section_at b k ∷ []) (let e : 0 + 40 * n ≡ 40 * n = omega arith in e)
-
-pub length-sections_from : (b : List ℕ) (at n : ℕ) → length (sections_from b at n) ≡ n
-length-sections_from b at zero = refl
-length-sections_from b at (suc n) = let rest = length-sections_from b (at + 40) n in omega arith
 
 pub ruleset table_steps = (sections_from-more)
 

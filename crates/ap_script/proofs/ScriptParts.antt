@@ -1,5 +1,5 @@
 -- The parts of the script: how long they are, and where quotes stand in them.
-use Rattle.std.proofs.Common.{◌≡◌, inl, inr, ℕ, zero, suc, ◌+◌, ◌*◌, ◌-◌, ◌/◌, ◌%◌, ◌^◌, ◌≤◌, ◌<◌, ◌&&◌, cond, Bool, true, false, List, [], ◌∷◌, ◌++◌, length, get_or, nat_lt, Option, Some, None, refl, sym, ap, ◌∙◌, arith, length-append, append_assoc, subst}
+use Rattle.std.proofs.Common.{◌≡◌, inl, inr, ℕ, zero, suc, ◌+◌, ◌*◌, ◌-◌, ◌%◌, ◌^◌, ◌≤◌, ◌<◌, ◌&&◌, cond, Bool, true, false, List, [], ◌∷◌, ◌++◌, length, get_or, nat_lt, Option, Some, None, refl, sym, ap, ◌∙◌, arith, length-append, append_assoc, subst}
 use Rattle.std.specs.Prelude.{codes, IfSome, nat_eq}
 use Rattle.std.specs.Int.{byte_at, bytes_low_first}
 use Rattle.std.specs.List.{flat_map, starts_with}

@@ -2,7 +2,7 @@
 -- and else copies it, writes the header for the system and the machine over the copy's first bytes and starts the copy. It is a
 -- function of the systems that were chosen, of the embedded ELF header of each machine that an input is for, and of the place
 -- and the length of the Mach-O header, each in units of eight bytes.
-use Rattle.std.specs.Prelude.{ℕ, ◌==◌, not, if◌then◌else◌, Bool, true, false, List, [], ◌∷◌, ◌++◌, codes, Option, Some, None, bit_and}
+use Rattle.std.specs.Prelude.{ℕ, if◌then◌else◌, Bool, List, [], ◌∷◌, ◌++◌, codes, Option, Some, None}
 use Rattle.std.specs.Option.{is_some}
 use Rattle.std.specs.Fmt.{decimal}
 use Rattle.ap_octal.specs.Statement.{statement_of}

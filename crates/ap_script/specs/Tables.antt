@@ -1,7 +1,7 @@
 -- The ELF header and the program headers that the linker writes for an input (System V gABI, "ELF Header" and "Program
 -- Header"; `PT_GNU_STACK` as Linux takes it).
 use Rattle.std.specs.Prelude.{ℕ, zero, suc, ◌+◌, ◌-◌, ◌%◌, ◌==◌, ◌&&◌, nat_le, nat_lt, if◌then◌else◌, Bool, List, [], ◌∷◌, ◌++◌, map, Option, Some, None, bit_and}
-use Rattle.ap_fields.specs.Granules.{floor_of, ceil_of}
+use Rattle.ap_fields.specs.Granules.{floor_of}
 use Rattle.ap_elf.specs.declared.constants.TheConstants.{ET_EXEC, EV_CURRENT, EHDR_SIZE, PHDR_SIZE, PT_LOAD, PT_NOTE, PT_TLS, PT_GNU_STACK, PF_R}
 use Rattle.ap_elf.specs.declared.types.Header.{Header}
 use Rattle.ap_elf.specs.declared.types.Entry.{Entry}

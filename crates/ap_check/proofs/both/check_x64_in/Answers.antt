@@ -1,10 +1,9 @@
-use Rattle.std.proofs.Common.{rules, ℕ, Result, Ok, Err, ◌∙◌}
+use Rattle.std.proofs.Common.{rules, ℕ, Result, Ok, Err}
 use Rattle.ap_check.specs.declared.end.CheckEnd.{CheckEnd}
 use Rattle.ap_check.specs.declared.end.CheckEnd.TheVariants.{Rule}
-use Rattle.ap_check.specs.Rules.{fault_of}
 use Rattle.ap_check.specs.ImportRule.{ChecksTold, import_rules}
 use Rattle.ap_check.specs.Windows.{base_of, image_rules}
-use Rattle.std.proofs.Common.{ap, sym, refl, Some}
+use Rattle.std.proofs.Common.{ap, sym, Some}
 use Rattle.ap_check.specs.Windows.{x64_rules}
 use Rattle.ap_check.proofs.WaysOut.{way_out}
 use Rattle.ap_check.proofs.WindowsLemmas.{base-low, image-meets, told-early, told-later, told-as, told-end}

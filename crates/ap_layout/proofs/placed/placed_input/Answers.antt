@@ -1,4 +1,4 @@
-use Rattle.std.proofs.Common.{◌+◌, ◌≤◌, [], drop, get_or, sym, ap, ◌∙◌, arith}
+use Rattle.std.proofs.Common.{◌+◌, [], drop, get_or, sym, ap, ◌∙◌, arith}
 use Rattle.std.specs.Option.{option_copied}
 use Rattle.ap_layout.specs.Jobs.{job_inputs}
 use Rattle.ap_layout.proofs.Known.{place-found, areas-held, few-inputs}

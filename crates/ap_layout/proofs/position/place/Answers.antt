@@ -1,7 +1,4 @@
-use Rattle.std.proofs.Common.{None, Some, sym, subst, option_copied}
-use Rattle.ap_check.specs.Inputs.{inputs_of}
-use Rattle.ap_check.specs.Windows.{AreReady}
-use Rattle.ap_check.proofs.Ready.{ready-inputs}
+use Rattle.std.proofs.Common.{None, Some, sym, subst}
 use Rattle.ap_fields.specs.declared.sizes.TheConstants.{BLOCK}
 use Rattle.ap_layout.specs.Apart.{Ascend, first_areas}
 use Rattle.ap_layout.specs.Positions.{Positions}

@@ -1,4 +1,4 @@
-use Rattle.std.proofs.Common.{◌∷◌, [], ◌+◌, ◌++◌, None, sym, ap, ◌∙◌, subst}
+use Rattle.std.proofs.Common.{◌∷◌, [], ◌++◌, None, sym, ap, ◌∙◌, subst}
 use Rattle.ap_layout.specs.Positions.{Positions, Fits}
 use Rattle.ap_layout.proofs.Fitting.{positions-fit}
 use Rattle.ap_layout.proofs.Made.{made-one}

@@ -1,10 +1,9 @@
 use Rattle.std.proofs.Common.{Err, sym, subst}
-use Rattle.std.specs.Option.{option_copied}
 use Rattle.ap_check.specs.declared.job.Job.{Job}
 use Rattle.ap_check.specs.Both.{pair_rules}
 use Rattle.ap_check.specs.ImportRule.{ChecksTold}
 use Rattle.ap_link.specs.FileAnswers.{LinksFiles}
-use Rattle.ap_link.specs.Sources.{second_name, end_of_check}
+use Rattle.ap_link.specs.Sources.{second_name}
 use Rattle.ap_link.proofs.Delivering.{links-unchecked}
 use Rattle.ap_link.proofs.stream.link_sources.Goals as goal
 

@@ -1,7 +1,7 @@
 use Rattle.std.proofs.Common.{◌≡◌, ◌∙◌, Some, None, true, false, sym, ap}
 use Rattle.std.proofs.lemmas.List.{take_rest}
 use Rattle.std.specs.String.{string_bytes}
-use Rattle.ap_run.specs.Words.{link_parts, texts_of, is_flag, is_option, with_flag, with_value, with_inputs, parts_in}
+use Rattle.ap_run.specs.Words.{link_parts, texts_of, is_flag, is_option, with_value, with_inputs, parts_in}
 use Rattle.ap_run.proofs.GivenWords.{same-word, same-second}
 use Rattle.ap_run.proofs.LinkWords.{plain-word, parts-flag, parts-option, parts-one, parts-both}
 use Rattle.ap_run.proofs.words.+read_parts.Goals as goal

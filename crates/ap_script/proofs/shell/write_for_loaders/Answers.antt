@@ -1,4 +1,4 @@
-use Rattle.std.proofs.Common.{rules, ◌++◌, refl}
+use Rattle.std.proofs.Common.{rules, ◌++◌}
 use Rattle.ap_claims.specs.declared.owner.Owner.TheVariants.{Ape}
 use Rattle.ap_claims.proofs.Writers.{next-claim, stopped-writer, next-writer}
 use Rattle.ap_script.specs.Blocks as spec
