@@ -131,7 +131,10 @@ class Rows:
         line = self.texts.get(line, line)
         for name, content in files.items():
             self.write(name, content)
-        ran = subprocess.run([self.apetool, *words], cwd=self.folder, capture_output=True, timeout=60)
+        for part in commands(words):
+            ran = subprocess.run([self.apetool, *part], cwd=self.folder, capture_output=True, timeout=60)
+            if ran.returncode != 0:
+                break
         faults = []
         printed = "".join(text[2:] + "\n" for text in below if text.startswith("| "))
         err = f"apetool: {line}\n" if line else ""
@@ -199,6 +202,17 @@ class Rows:
 def split(text):
     """The parts between commas, but for those in quotes."""
     return re.findall(r'(?:[^,"]|"(?:\\.|[^"\\])*")+', text.replace(", ", ","))
+
+
+def commands(words):
+    """The commands of words between `&&`."""
+    parts = [[]]
+    for word in words:
+        if word == "&&":
+            parts.append([])
+        else:
+            parts[-1].append(word)
+    return parts
 
 
 def number(text):
