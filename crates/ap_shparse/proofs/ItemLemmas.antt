@@ -66,9 +66,9 @@ pub record KeptItem (item : Place → Outcome Place Item) (q y : Place) (i : Ite
   pub same_end : (c : Text) → past_end (place gap_front mid_bodies c) ≡ Some (place r fs c)
 
 pub kept_item : (item : Place → Outcome Place Item) → PKeeps item item → (q y s : Place) (i : Item) (r : Text) (fs : Option Text) (b tail : Text) → item q ≡ Some (i, y) → past_end (past_gap y) ≡ Some s → Ends s r fs b tail
-    → Fits y.bodies b → KeptItem item q y i r fs b
+    → (past_newline (past_gap y) ≡ Some s → Fits y.bodies b) → KeptItem item q y i r fs b
 kept_item item k q y s i r fs b tail e n l f =
-    let m = kept_end (past_gap y) s r fs b tail n l (λ _. f) in
+    let m = kept_end (past_gap y) s r fs b tail n l f in
     let g = kept_gap y.text m.front b m.left.is_text m.left.has_stop in
     let d : Left y g.front m.bodies b m.tail = record { is_text = g.spelling; is_bodies = m.left.is_bodies; as_long = m.left.as_long; has_stop = g.has_stop; some = m.left.some } in
     let u = k q i y g.front m.bodies b m.tail e d in

@@ -10,3 +10,4 @@ pub mod KeptCommands
 pub mod KeptItems
 pub mod ItemLemmas
 pub mod GapLemmas
+pub mod FrontLemmas
