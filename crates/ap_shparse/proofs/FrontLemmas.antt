@@ -27,13 +27,13 @@ Items = Place → Outcome Place Item
 
 -- ---- what is left only gets less
 
-err_of : {A : Type 0} (a b : ℕ) → ◌≡◌ {A = Result A ℕ} (Err a) (Err b) → a ≡ b
+pub err_of : {A : Type 0} (a b : ℕ) → ◌≡◌ {A = Result A ℕ} (Err a) (Err b) → a ≡ b
 err_of a b e = cc
 
-no_err : {A : Type 0} (a : A) (b : ℕ) → ◌≡◌ {A = Result A ℕ} (Ok a) (Err b) → ⊥
+pub no_err : {A : Type 0} (a : A) (b : ℕ) → ◌≡◌ {A = Result A ℕ} (Ok a) (Err b) → ⊥
 no_err a b e = cc
 
-left_less : (left : ℕ) (q : Place) → left_at left q ≤ left
+pub left_less : (left : ℕ) (q : Place) → left_at left q ≤ left
 left_less left q = by_waits (waits q)
   where
     by_waits : (v : Bool) → (if v then left else min left (length q.text)) ≤ left
@@ -44,7 +44,7 @@ left_less left q = by_waits (waits q)
 abbrev pub stop_on : ℕ → List Chain → Place → Answer
 stop_on left found q = if is_nil q.text && not (waits q) then Ok found else Err (left_at left q)
 
-stop_err : (v : Bool) (found : List Chain) (a l : ℕ) → ◌≡◌ {A = Result (List Chain) ℕ} (if v then Ok found else Err a) (Err l) → a ≡ l
+pub stop_err : (v : Bool) (found : List Chain) (a l : ℕ) → ◌≡◌ {A = Result (List Chain) ℕ} (if v then Ok found else Err a) (Err l) → a ≡ l
 stop_err true found a l e = absurd (no_err found l e)
 stop_err false found a l e = err_of a l e
 
@@ -132,11 +132,11 @@ pub record IsFront (item : Items) (p : Place) (b : Text) : Type 0 where
   pub some : Some_ bodies
   pub reads : (n : ℕ) → length front ≤ n → (ts : List Turn) → is_some (front_from item n ts (place front bodies [])) ≡ true
 
-all_lines : (p q : Place) → newlines p ≡ Some q → newlines_from (length p.text) p ≡ Some q
+pub all_lines : (p q : Place) → newlines p ≡ Some q → newlines_from (length p.text) p ≡ Some q
 unfolding newlines
 all_lines p q e = e
 
-lines_all : (p q : Place) → newlines_from (length p.text) p ≡ Some q → newlines p ≡ Some q
+pub lines_all : (p q : Place) → newlines_from (length p.text) p ≡ Some q → newlines p ≡ Some q
 unfolding newlines
 lines_all p q e = e
 

@@ -83,7 +83,7 @@ lines_short (suc n) p q e = by_newline (past_newline (past_gap p)) refl e (λ s 
 
 -- ---- a gap to the end
 
-after_nothing : (k : Class) (t b : Text) → after k t ≡ [] → after k (t ++ b) ≡ after k b
+pub after_nothing : (k : Class) (t b : Text) → after k t ≡ [] → after k (t ++ b) ≡ after k b
 after_nothing k [] b e = refl
 after_nothing k (c ∷ t) b e = by_has (has k c) refl e (after_nothing k t b)
   where
@@ -124,7 +124,7 @@ run_whole k (c ∷ t) = by_has (has k c) refl (run_whole k t)
     by_has false is rec = refl
 
 -- what follows a gap that went to the end is no longer than what was added
-gap_more : (t b : Text) → gap t ≡ [] → length (gap (t ++ b)) ≤ length b
+pub gap_more : (t b : Text) → gap t ≡ [] → length (gap (t ++ b)) ≤ length b
 unfolding gap past_comment
 gap_more t b e = by_blanks (after Blank t) refl e
   where

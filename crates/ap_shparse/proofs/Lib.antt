@@ -11,3 +11,5 @@ pub mod KeptItems
 pub mod ItemLemmas
 pub mod GapLemmas
 pub mod FrontLemmas
+pub mod GrownLemmas
+pub mod LongestLemmas
