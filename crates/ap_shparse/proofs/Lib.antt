@@ -13,3 +13,4 @@ pub mod GapLemmas
 pub mod FrontLemmas
 pub mod GrownLemmas
 pub mod LongestLemmas
+pub mod OutsideLemmas
