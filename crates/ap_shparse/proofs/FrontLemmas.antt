@@ -1,26 +1,24 @@
 -- A text that has no script has a whole front as long as its place.
-use Rattle.std.proofs.Common.{◌≡◌, ◌∙◌, ◌≤◌, ◌<◌, ◌+◌, ◌-◌, ℕ, zero, suc, List, [], ◌∷◌, ◌++◌, ◌⊎◌, inl, inr, refl, sym, ap, ap₂, subst, Bool, true, false, cond, if◌then◌else◌, ◌||◌, ◌&&◌, not, length, arith, length-append, append-nil, min}
+use Rattle.std.proofs.Common.{◌≡◌, ◌∙◌, ◌≤◌, ◌<◌, ℕ, zero, suc, List, [], ◌∷◌, ◌++◌, ◌⊎◌, inl, inr, refl, sym, ap, Bool, true, false, if◌then◌else◌, ◌&&◌, not, length, arith, length-append, min}
 use Rattle.std.specs.Prelude.{Option, Some, None, Result, Ok, Err, is_some, option_map}
 use Rattle.std.proofs.Math.Nat.{eq-or-lt_of_le}
-use Rattle.ap_shparse.specs.Bytes.{Text, gap, past_comment, after}
+use Rattle.ap_shparse.specs.Bytes.{Text}
 use Rattle.ap_shparse.specs.Reads.{Outcome, and_then, if_eaten}
-use Rattle.ap_shparse.specs.Places.{Place, at_text, newlines, newlines_from, past_gap, past_newline, waits}
-use Rattle.ap_shparse.specs.Commands.{alone, is_nil}
-use Rattle.ap_shparse.specs.Lists.{chain, list}
+use Rattle.ap_shparse.specs.Places.{Place, newlines, newlines_from, past_gap, waits}
+use Rattle.ap_shparse.specs.Commands.{is_nil}
 use Rattle.ap_shparse.specs.Scripts.{Answer, by_turn, left_at, script, script_from, turn, turn_of}
-use Rattle.ap_shparse.specs.Fronts.{at_stop, cut_at, front, front_from, is_cut, on_item, whole_item, with_item}
+use Rattle.ap_shparse.specs.Fronts.{at_stop, front_from, is_cut, on_item, whole_item, with_item}
 use Rattle.ap_shparse.specs.declared.item.Item.{Item}
 use Rattle.ap_shparse.specs.declared.script.Turn.{Turn}
 use Rattle.ap_shparse.specs.declared.script.Turn.TheVariants as turned
 use Rattle.ap_shparse.specs.declared.tree.Chain.{Chain}
-use Rattle.ap_shparse.proofs.Keeps.{Has, both_of, inner, left_of, right_of}
-use Rattle.ap_shparse.proofs.KeptPieces.{longer, never_some}
+use Rattle.ap_shparse.proofs.Keeps.{left_of}
+use Rattle.ap_shparse.proofs.KeptPieces.{longer}
 use Rattle.ap_shparse.proofs.KeptHere.{NotNil}
-use Rattle.ap_shparse.proofs.KeptPlaces.{Left, PKeeps, Some_, place}
-use Rattle.ap_shparse.proofs.KeptLines.{Fits, at_newline, fits, kept_all_lines}
-use Rattle.ap_shparse.proofs.KeptItems.{Ends, pkeeps_chain, pkeeps_list}
-use Rattle.ap_shparse.proofs.ItemLemmas.{KeptItem, ReadItem, ReadNext, as_whole, kept_item, not_cut, not_nil_has, read_next}
-use Rattle.ap_shparse.proofs.GapLemmas.{LinesAlone, lines_alone, nothing}
+use Rattle.ap_shparse.proofs.KeptPlaces.{PKeeps, Some_, place}
+use Rattle.ap_shparse.proofs.KeptLines.{at_newline, fits, kept_all_lines}
+use Rattle.ap_shparse.proofs.ItemLemmas.{as_whole, kept_item, not_cut, not_nil_has, read_next}
+use Rattle.ap_shparse.proofs.GapLemmas.{lines_alone, nothing}
 
 abbrev pub Items : Type 0
 Items = Place → Outcome Place Item
@@ -62,6 +60,7 @@ less_left item (suc m) left found p l e = by_lines (newlines p) e (λ k f s w. l
     by_turned k le (Some (turned.End, s)) e rec = absurd (no_err found l e)
     by_turned k le (Some (turned.Last c, s)) e rec = absurd (no_err (found ++ c ∷ []) l e)
     by_turned k le (Some (turned.Next c, s)) e rec = omega (arith, rec k (found ++ c ∷ []) s e, le)
+
     by_lines : (o : Option Place) → if_eaten o (λ q. by_turn (script_from item m) (left_at left q) found (turn item q)) (Err left) ≡ Err l → ((k : ℕ) (f : List Chain) (s : Place) → script_from item m k f s ≡ Err l → l ≤ k) → l ≤ left
     by_lines None e rec = let q = err_of left l e in omega (arith, q)
     by_lines (Some q) e rec = by_turned (left_at left q) (left_less left q) (turn item q) e rec
@@ -103,6 +102,7 @@ some_left item zero left found p l e le = by_lines (newlines p) e
     by_stop : (q : Place) (v : Bool) → is_nil q.text && not (waits q) ≡ v → ◌≡◌ {A = Result (List Chain) ℕ} (if v then Ok found else Err (left_at left q)) (Err l) → 1 ≤ l
     by_stop q true n e = absurd (no_err found l e)
     by_stop q false n e = let w = err_of (left_at left q) l e in omega (arith, w, left_some left q le n)
+
     by_lines : (o : Option Place) → if_eaten o (stop_on left found) (Err left) ≡ Err l → 1 ≤ l
     by_lines None e = let q = err_of left l e in omega (arith, q, le)
     by_lines (Some q) e = by_stop q (is_nil q.text && not (waits q)) refl e
@@ -116,6 +116,7 @@ some_left item (suc m) left found p l e le = by_lines (newlines p) e (λ k f s w
     by_turned q (Some (turned.Last c, s)) is v n e rec = absurd (no_err (found ++ c ∷ []) l e)
     by_turned q (Some (turned.Next c, s)) is true n e rec = absurd (end_no_next c (turn_nil item q (turned.Next c) s is n))
     by_turned q (Some (turned.Next c, s)) is false n e rec = rec (left_at left q) (found ++ c ∷ []) s e (left_some left q le n)
+
     by_lines : (o : Option Place) → if_eaten o (λ q. by_turn (script_from item m) (left_at left q) found (turn item q)) (Err left) ≡ Err l → ((k : ℕ) (f : List Chain) (s : Place) → script_from item m k f s ≡ Err l → 1 ≤ k → 1 ≤ l) → 1 ≤ l
     by_lines None e rec = let q = err_of left l e in omega (arith, q, le)
     by_lines (Some q) e rec = by_turned q (turn item q) refl (is_nil q.text && not (waits q)) refl e rec
@@ -153,10 +154,17 @@ front_at_lines : (item : Items) (p q : Place) → newlines p ≡ Some q → q.bo
 front_at_lines item p q e n s =
     let m = lines_alone (length p.text) p q (all_lines p q e) n s in
     record {
-      front = m.front; bodies = m.bodies; tail = m.tail; is_text = m.is_text; is_bodies = m.is_bodies; as_long = m.as_long; some = m.some;
+      front = m.front;
+      bodies = m.bodies;
+      tail = m.tail;
+      is_text = m.is_text;
+      is_bodies = m.is_bodies;
+      as_long = m.as_long;
+      some = m.some;
       reads = elim [
-          zero ↦ λ le ts. ap is_some (front_step item zero ts (place m.front m.bodies []) (Some nothing) (not_cut m.bodies [] m.some) (lines_all (place m.front m.bodies []) nothing (m.same (length (m.front ++ [])) (longer m.front []))))
-        | suc j ↦ λ le ts. ap is_some (front_step item (suc j) ts (place m.front m.bodies []) (Some nothing) (not_cut m.bodies [] m.some) (lines_all (place m.front m.bodies []) nothing (m.same (length (m.front ++ [])) (longer m.front [])))) ];
+        | zero ↦ λ le ts. ap is_some (front_step item zero ts (place m.front m.bodies []) (Some nothing) (not_cut m.bodies [] m.some) (lines_all (place m.front m.bodies []) nothing (m.same (length (m.front ++ [])) (longer m.front []))))
+        | suc j ↦ λ le ts. ap is_some (front_step item (suc j) ts (place m.front m.bodies []) (Some nothing) (not_cut m.bodies [] m.some) (lines_all (place m.front m.bodies []) nothing (m.same (length (m.front ++ [])) (longer m.front []))))
+      ];
     }
 
 -- one item more in front
@@ -165,17 +173,24 @@ front_before item k p q s c b e t g m =
     let w = read_next item q c s t in
     let r = w.is_read in
     let u = kept_item item k q r.behind s r.item_of m.front m.bodies b m.tail r.is_item r.is_end (record { is_text = m.is_text; is_bodies = m.is_bodies; as_long = m.as_long; some = m.some })
-            (λ n. let a = at_newline (past_gap r.behind) s n in fits r.behind.bodies a.rest s.text b (ap (λ y. y.text) a.is_next) (inr (some_length b g, omega (arith, ap length m.is_text, length-append m.front b)))) in
+    (λ n. let a = at_newline (past_gap r.behind) s n in fits r.behind.bodies a.rest s.text b (ap (λ y. y.text) a.is_next) (inr (some_length b g, omega (arith, ap length m.is_text, length-append m.front b)))) in
     let v = kept_all_lines p q u.front u.bodies b u.tail e u.left in
     let step = λ (j : ℕ) (ts : List Turn). front_step item (suc j) ts (place v.front v.bodies []) (Some (place u.front u.bodies [])) (not_cut v.bodies [] v.left.some) (v.same []) in
     record {
-      front = v.front; bodies = v.bodies; tail = v.tail; is_text = v.left.is_text; is_bodies = v.left.is_bodies; as_long = v.left.as_long; some = v.left.some;
+      front = v.front;
+      bodies = v.bodies;
+      tail = v.tail;
+      is_text = v.left.is_text;
+      is_bodies = v.left.is_bodies;
+      as_long = v.left.as_long;
+      some = v.left.some;
       reads = elim [
-          zero ↦ λ le ts. absurd (omega (arith, le, v.eats, u.eats))
+        | zero ↦ λ le ts. absurd (omega (arith, le, v.eats, u.eats))
         | suc j ↦ λ le ts. ap is_some (step j ts
             ∙ ap (λ x. if x then at_stop ts (place u.front u.bodies []) else with_item (front_from item j) ts (whole_item item (place u.front u.bodies []))) (not_nil_has u.front [] u.left.has_stop)
             ∙ ap (with_item (front_from item j) ts) (as_whole item q r.behind r.item_of m.front m.bodies b u []))
-            ∙ m.reads j (omega (arith, le, v.eats, u.eats)) (ts ++ turn_of r.item_of (waits r.behind) ∷ []) ];
+            ∙ m.reads j (omega (arith, le, v.eats, u.eats)) (ts ++ turn_of r.item_of (waits r.behind) ∷ [])
+      ];
     }
   where
     some_length : (b : Text) → NotNil b → 1 ≤ length b
@@ -216,12 +231,14 @@ front_left item k (suc m) left found p l e less some = by_lines (newlines p) ref
     by_next q s c is t e rec (inr lt) =
         let w = rec (left_at left q) (found ++ c ∷ []) s e lt in
         record { rest = w.rest; is_long = w.is_long; is_front = front_before item k p q s c w.rest is t (not_nil_long w.rest l w.is_long some) w.is_front }
+
     by_turned : (q : Place) → newlines p ≡ Some q → (o : Outcome Place Turn) → turn item q ≡ o → by_turn (script_from item m) (left_at left q) found o ≡ Err l
         → ((j : ℕ) (f : List Chain) (s : Place) → script_from item m j f s ≡ Err l → l < j → FrontLeft item s l) → FrontLeft item p l
     by_turned q is None t e rec = at_mark item left l p q is (err_of (left_at left q) l e) less some
     by_turned q is (Some (turned.End, s)) t e rec = absurd (no_err found l e)
     by_turned q is (Some (turned.Last c, s)) t e rec = absurd (no_err (found ++ c ∷ []) l e)
     by_turned q is (Some (turned.Next c, s)) t e rec = by_next q s c is t e rec (eq-or-lt_of_le (less_left item m (left_at left q) (found ++ c ∷ []) s l e))
+
     by_lines : (o : Option Place) → newlines p ≡ o → if_eaten o (λ q. by_turn (script_from item m) (left_at left q) found (turn item q)) (Err left) ≡ Err l
         → ((j : ℕ) (f : List Chain) (s : Place) → script_from item m j f s ≡ Err l → l < j → FrontLeft item s l) → FrontLeft item p l
     by_lines None is e rec = let q = err_of left l e in absurd (omega (arith, q, less))

@@ -1,28 +1,20 @@
 -- A whole front is read the same before any other text.
-use Rattle.std.proofs.Common.{◌≡◌, ◌∙◌, ◌≤◌, ◌<◌, ◌+◌, ◌-◌, ℕ, zero, suc, List, [], ◌∷◌, ◌++◌, ◌⊎◌, inl, inr, refl, sym, ap, ap₂, subst, Bool, true, false, cond, if◌then◌else◌, ◌||◌, ◌&&◌, ◌==◌, not, length, arith, length-append, append-nil, append_assoc, min}
-use Rattle.std.specs.Prelude.{Option, Some, None, Result, Ok, Err, is_some, option_map}
-use Rattle.std.proofs.lemmas.Bool.Decides.{nat_tests}
-use Rattle.ap_shparse.specs.Bytes.{Text, after, gap, has, past_comment}
-use Rattle.ap_shparse.specs.Reads.{Outcome, and_then, if_eaten}
-use Rattle.ap_shparse.specs.Places.{Place, at_text, newlines, newlines_by, newlines_from, no_newline, past_gap, past_newline, waits}
-use Rattle.ap_shparse.specs.Commands.{alone, is_nil}
-use Rattle.ap_shparse.specs.Scripts.{Answer, by_turn, left_at, script_from, turn, turn_of}
-use Rattle.ap_shparse.specs.Fronts.{at_stop, cut_at, front_from, is_cut, on_item, whole_item, with_item}
-use Rattle.ap_shparse.specs.declared.class.Class.TheVariants.{Blank, Comment}
-use Rattle.ap_shparse.specs.declared.item.Item.{Item}
+use Rattle.std.proofs.Common.{◌≡◌, ◌∙◌, ◌≤◌, ℕ, zero, suc, [], ◌∷◌, ◌++◌, refl, sym, ap, ap₂, subst, if◌then◌else◌, length, arith, append-nil}
+use Rattle.std.specs.Prelude.{Option, Some, None, is_some, option_map}
+use Rattle.ap_shparse.specs.Bytes.{Text}
+use Rattle.ap_shparse.specs.Reads.{if_eaten}
+use Rattle.ap_shparse.specs.Places.{Place, at_text, newlines, newlines_from, no_newline, past_gap, past_newline}
+use Rattle.ap_shparse.specs.Scripts.{turn}
+use Rattle.ap_shparse.specs.Fronts.{whole_item}
 use Rattle.ap_shparse.specs.declared.script.Turn.{Turn}
-use Rattle.ap_shparse.specs.declared.script.Turn.TheVariants as turned
-use Rattle.ap_shparse.specs.declared.tree.Chain.{Chain}
-use Rattle.ap_shparse.proofs.Keeps.{Has, inner, left_of, right_of}
+use Rattle.ap_shparse.proofs.Keeps.{inner}
 use Rattle.ap_shparse.proofs.KeptRuns.{kept_gap}
-use Rattle.ap_shparse.proofs.KeptPieces.{longer, never_some}
-use Rattle.ap_shparse.proofs.KeptHere.{NotNil}
+use Rattle.ap_shparse.proofs.KeptPieces.{never_some}
 use Rattle.ap_shparse.proofs.KeptPlaces.{Left, PKeeps, Some_, place}
-use Rattle.ap_shparse.proofs.KeptLines.{Fits, at_newline, fits, kept_all_lines, kept_newline}
-use Rattle.ap_shparse.proofs.KeptItems.{Ends}
-use Rattle.ap_shparse.proofs.ItemLemmas.{KeptItem, ReadItem, ReadWhole, as_turn, fits_nothing, kept_item, map_nil, read_whole, some_bodies}
-use Rattle.ap_shparse.proofs.GapLemmas.{Shorter, gap_more, goes_on, lines_short, nothing, total_lines}
-use Rattle.ap_shparse.proofs.FrontLemmas.{Items, err_of, less_left, no_err, stop_err, stop_on}
+use Rattle.ap_shparse.proofs.KeptLines.{at_newline, kept_all_lines, kept_newline}
+use Rattle.ap_shparse.proofs.ItemLemmas.{as_turn, fits_nothing, kept_item, map_nil, read_whole}
+use Rattle.ap_shparse.proofs.GapLemmas.{gap_more, goes_on, lines_short}
+use Rattle.ap_shparse.proofs.FrontLemmas.{Items}
 
 -- a place, with this text behind
 abbrev pub grown : Place → Text → Place
@@ -87,6 +79,7 @@ tail_short zero p q b e t n some m r w = by_newline (past_newline (past_gap p)) 
     here g =
         let l = lines_short m (grown p b) r w in
         (omega (arith, l.short, gap_more p.text b (ap (λ y. y.text) g ∙ t)), l.none (ap (option_map (λ z. z ++ b)) (ap (λ y. y.bodies) g ∙ n)))
+
     by_newline : (o : Option Place) → (if is_some o then None else Some (past_gap p)) ≡ Some q → (length r.text ≤ length b) × (r.bodies ≡ None)
     by_newline None e = here (inner (past_gap p) q e)
     by_newline (Some s) e = cc
@@ -96,9 +89,11 @@ tail_short (suc k) p q b e t n some m r w = by_newline (past_newline (past_gap p
     here g =
         let l = lines_short m (grown p b) r w in
         (omega (arith, l.short, gap_more p.text b (ap (λ y. y.text) g ∙ t)), l.none (ap (option_map (λ z. z ++ b)) (ap (λ y. y.bodies) g ∙ n)))
+
     by_fuel : (s : Place) → GrownLine p s b → ((j : ℕ) (r : Place) → newlines_from j (grown s b) ≡ Some r → (length r.text ≤ length b) × (r.bodies ≡ None)) → (m : ℕ) → newlines_from m (grown p b) ≡ Some r → (length r.text ≤ length b) × (r.bodies ≡ None)
     by_fuel s g rec zero w = absurd (no_lines (grown p b) g.behind_gap (grown s b) r g.is_gap g.is_newline w)
     by_fuel s g rec (suc j) w = rec j r (sym (goes_on j (grown p b) g.behind_gap (grown s b) g.is_gap g.is_newline) ∙ w)
+
     by_newline : (o : Option Place) → past_newline (past_gap p) ≡ o → if_eaten o (newlines_from k) (Some (past_gap p)) ≡ Some q
         → ((s : Place) → newlines_from k s ≡ Some q → Some_ s.bodies → (m : ℕ) (r : Place) → newlines_from m (grown s b) ≡ Some r → (length r.text ≤ length b) × (r.bodies ≡ None)) → (length r.text ≤ length b) × (r.bodies ≡ None)
     by_newline None is e rec = here (inner (past_gap p) q e)

@@ -14,3 +14,4 @@ pub mod FrontLemmas
 pub mod GrownLemmas
 pub mod LongestLemmas
 pub mod OutsideLemmas
+pub mod JoinLemmas

@@ -1,21 +1,19 @@
 -- No whole front of a text that has no script is longer than its place.
-use Rattle.std.proofs.Common.{◌≡◌, ◌∙◌, ◌≤◌, ◌<◌, ◌+◌, ◌-◌, ℕ, zero, suc, List, [], ◌∷◌, ◌++◌, ◌⊎◌, inl, inr, refl, sym, ap, ap₂, subst, Bool, true, false, cond, if◌then◌else◌, ◌||◌, ◌&&◌, not, length, arith, length-append, append-nil, min}
-use Rattle.std.specs.Prelude.{Option, Some, None, Result, Ok, Err, is_some, option_map}
+use Rattle.std.proofs.Common.{◌≡◌, ◌∙◌, ◌≤◌, ℕ, zero, suc, List, [], ◌∷◌, ◌++◌, ◌⊎◌, inl, inr, refl, sym, ap, Bool, true, false, if◌then◌else◌, ◌&&◌, not, length, arith, min}
+use Rattle.std.specs.Prelude.{Option, Some, None, Err, is_some}
 use Rattle.ap_shparse.specs.Bytes.{Text}
-use Rattle.ap_shparse.specs.Reads.{Outcome, and_then, if_eaten}
-use Rattle.ap_shparse.specs.Places.{Place, newlines, newlines_from, waits}
-use Rattle.ap_shparse.specs.Commands.{alone, is_nil}
-use Rattle.ap_shparse.specs.Scripts.{Answer, by_turn, left_at, script_from, turn, turn_of}
-use Rattle.ap_shparse.specs.Fronts.{at_stop, cut_at, front_from, is_cut, on_item, whole_item, with_item}
+use Rattle.ap_shparse.specs.Reads.{Outcome, if_eaten}
+use Rattle.ap_shparse.specs.Places.{Place, newlines, waits}
+use Rattle.ap_shparse.specs.Commands.{is_nil}
+use Rattle.ap_shparse.specs.Scripts.{by_turn, left_at, script_from, turn}
+use Rattle.ap_shparse.specs.Fronts.{at_stop, front_from, is_cut, on_item, whole_item, with_item}
 use Rattle.ap_shparse.specs.declared.script.Turn.{Turn}
 use Rattle.ap_shparse.specs.declared.script.Turn.TheVariants as turned
 use Rattle.ap_shparse.specs.declared.tree.Chain.{Chain}
-use Rattle.ap_shparse.proofs.Keeps.{left_of, right_of}
 use Rattle.ap_shparse.proofs.KeptPlaces.{PKeeps, Some_}
-use Rattle.ap_shparse.proofs.KeptPieces.{longer, never_some}
 use Rattle.ap_shparse.proofs.ItemLemmas.{some_bodies}
-use Rattle.ap_shparse.proofs.FrontLemmas.{Items, all_lines, err_of, left_less, less_left, no_err, stop_err, stop_on, stopped}
-use Rattle.ap_shparse.proofs.GrownLemmas.{GrownItem, grown, grown_item, tail_short}
+use Rattle.ap_shparse.proofs.FrontLemmas.{Items, all_lines, err_of, less_left, no_err, stop_err, stop_on, stopped}
+use Rattle.ap_shparse.proofs.GrownLemmas.{grown, grown_item, tail_short}
 use Rattle.ap_shparse.proofs.GapLemmas.{total_lines}
 
 -- ---- what a front's reading says
@@ -37,6 +35,7 @@ opened item zero ts p us e = by_cut (is_cut p) refl e
     by_lines : Some_ p.bodies → (o : Option Place) → newlines p ≡ o → if_eaten o (at_stop ts) None ≡ Some us → Opened item zero ts p us
     by_lines u None is e = cc
     by_lines u (Some q) is e = record { uncut = u; start = q; is_start = is; is_rest = e }
+
     by_cut : (v : Bool) → is_cut p ≡ v → or_cut v (if_eaten (newlines p) (at_stop ts) None) ≡ Some us → Opened item zero ts p us
     by_cut true c e = cc
     by_cut false c e = by_lines (some_bodies p.bodies c) (newlines p) refl e
@@ -45,6 +44,7 @@ opened item (suc n) ts p us e = by_cut (is_cut p) refl e
     by_lines : Some_ p.bodies → (o : Option Place) → newlines p ≡ o → if_eaten o (on_item item (front_from item n) ts) None ≡ Some us → Opened item (suc n) ts p us
     by_lines u None is e = cc
     by_lines u (Some q) is e = record { uncut = u; start = q; is_start = is; is_rest = e }
+
     by_cut : (v : Bool) → is_cut p ≡ v → or_cut v (if_eaten (newlines p) (on_item item (front_from item n) ts) None) ≡ Some us → Opened item (suc n) ts p us
     by_cut true c e = cc
     by_cut false c e = by_lines (some_bodies p.bodies c) (newlines p) refl e
@@ -82,6 +82,7 @@ stop_or_item item (suc n) ts q us e = by_nil (is_nil q.text) e
     by_item : (o : Outcome Place Turn) → whole_item item q ≡ o → with_item (front_from item n) ts o ≡ Some us → AtStop q ts us ⊎ AtItem item (suc n) ts q us
     by_item None is e = cc
     by_item (Some o) is e = inr (record { fuel = n; is_fuel = refl; turn_is = o.0; next = o.1; is_item = is; is_rest = e })
+
     by_nil : (v : Bool) → (if v then at_stop ts q else with_item (front_from item n) ts (whole_item item q)) ≡ Some us → AtStop q ts us ⊎ AtItem item (suc n) ts q us
     by_nil true e = inl (at_stop_is q ts us e)
     by_nil false e = by_item (whole_item item q) refl e
@@ -111,6 +112,7 @@ at_front_end item p q b e t n some (suc m) left found l w ok = by_lines (newline
     by_turned r le (Some (turned.End, s)) w = absurd (no_err found l w)
     by_turned r le (Some (turned.Last c, s)) w = absurd (no_err (found ++ c ∷ []) l w)
     by_turned r le (Some (turned.Next c, s)) w = omega (arith, less_left item m (left_at left r) (found ++ c ∷ []) s l w, le)
+
     by_lines : (o : Option Place) → newlines (grown p b) ≡ o → if_eaten o (λ r. by_turn (script_from item m) (left_at left r) found (turn item r)) (Err left) ≡ Err l → is_some o ≡ true → l ≤ length b
     by_lines None is w ok = cc
     by_lines (Some r) is w ok =
@@ -121,7 +123,7 @@ pub total : (p : Place) → is_some (newlines p) ≡ true
 unfolding newlines
 total p = total_lines (length p.text) p (omega arith)
 
-script_next : (item : Items) (m left : ℕ) (found : List Chain) (p q : Place) (t : Turn) (s : Place) → newlines p ≡ Some q → turn item q ≡ Some (t, s) → script_from item (suc m) left found p ≡ by_turn (script_from item m) (left_at left q) found (Some (t, s))
+pub script_next : (item : Items) (m left : ℕ) (found : List Chain) (p q : Place) (t : Turn) (s : Place) → newlines p ≡ Some q → turn item q ≡ Some (t, s) → script_from item (suc m) left found p ≡ by_turn (script_from item m) (left_at left q) found (Some (t, s))
 unfolding script_from
 script_next item m left found p q t s e w = ap (λ o. if_eaten o (λ r. by_turn (script_from item m) (left_at left r) found (turn item r)) (Err left)) e ∙ ap (by_turn (script_from item m) (left_at left q) found) w
 
@@ -130,8 +132,9 @@ pub longest : (item : Items) → PKeeps item item → (n : ℕ) (ts : List Turn)
 longest item k zero ts p us b e m le left found l w =
     let o = opened item zero ts p us e in
     elim (stop_or_item item zero ts o.start us o.is_rest) [
-        inl s ↦ at_front_end item p o.start b o.is_start s.no_text s.no_bodies o.uncut m left found l w (total (grown p b))
-      | inr i ↦ absurd (omega (arith, i.is_fuel)) ]
+      | inl s ↦ at_front_end item p o.start b o.is_start s.no_text s.no_bodies o.uncut m left found l w (total (grown p b))
+      | inr i ↦ absurd (omega (arith, i.is_fuel))
+    ]
 longest item k (suc n) ts p us b e zero le left found l w = absurd (omega (arith, le))
 longest item k (suc n) ts p us b e (suc m) le left found l w =
     let o = opened item (suc n) ts p us e in
@@ -142,6 +145,7 @@ longest item k (suc n) ts p us b e (suc m) le left found l w =
     by_next turned.End s q left w rec = absurd (no_err found l w)
     by_next (turned.Last c) s q left w rec = absurd (no_err (found ++ c ∷ []) l w)
     by_next (turned.Next c) s q left w rec = rec left (found ++ c ∷ []) w
+
     by_kind : (q : Place) → newlines p ≡ Some q → Some_ p.bodies → AtStop q ts us ⊎ AtItem item (suc n) ts q us
         → ((vs : List Turn) (s : Place) → front_from item n vs s ≡ Some us → (c : ℕ) (g : List Chain) → script_from item m c g (grown s b) ≡ Err l → l ≤ length b) → l ≤ length b
     by_kind q is uncut (inl s) rec = at_front_end item p q b is s.no_text s.no_bodies uncut (suc m) left found l w (total (grown p b))

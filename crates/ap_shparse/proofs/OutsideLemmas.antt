@@ -1,31 +1,29 @@
 -- The place of a text that has no script, in both readings of NUL.
-use Rattle.std.proofs.Common.{◌≡◌, ◌∙◌, ◌≤◌, ◌<◌, ◌+◌, ◌-◌, ℕ, zero, suc, List, [], ◌∷◌, ◌++◌, ◌⊎◌, inl, inr, refl, sym, ap, ap₂, subst, Bool, true, false, cond, if◌then◌else◌, ◌||◌, ◌&&◌, ◌==◌, not, length, arith, length-append, append-nil, take, drop, filter}
-use Rattle.std.specs.Prelude.{Option, Some, None, Result, Ok, Err, is_some, option_map}
+use Rattle.std.proofs.Common.{◌≡◌, ◌∙◌, ◌≤◌, ◌<◌, ◌-◌, ℕ, zero, suc, List, [], ◌∷◌, ◌++◌, ◌⊎◌, inl, inr, refl, sym, ap, subst, Bool, true, false, if◌then◌else◌, ◌==◌, not, length, arith, length-append, append-nil, take, drop, filter}
+use Rattle.std.specs.Prelude.{Option, Some, None, Ok, Err, is_some, option_map}
 use Rattle.std.proofs.Math.Nat.{eq-or-lt_of_le}
 use Rattle.std.proofs.lemmas.List.{take-append-drop, length-take-le}
 use Rattle.std.proofs.lemmas.List.Elements.{filter-append}
 use Rattle.std.proofs.Math.Seq.{take-append_seam}
-use Rattle.ap_shparse.specs.Bytes.{Text, gap, past_comment, after}
-use Rattle.ap_shparse.specs.Places.{Place, newlines, newlines_from}
+use Rattle.ap_shparse.specs.Bytes.{Text, gap, past_comment}
+use Rattle.ap_shparse.specs.Places.{newlines, newlines_from}
 use Rattle.ap_shparse.specs.Commands.{alone}
 use Rattle.ap_shparse.specs.Lists.{chain, list}
 use Rattle.ap_shparse.specs.Scripts.{script, script_from}
 use Rattle.ap_shparse.specs.Fronts.{chains, front, front_from}
-use Rattle.ap_shparse.specs.Grammar.{IsFront, IsOutside, IsScript, past_nul, seen}
+use Rattle.ap_shparse.specs.Grammar.{IsOutside, past_nul}
 use Rattle.ap_shparse.specs.declared.script.Turn.{Turn}
 use Rattle.ap_shparse.specs.declared.tree.Chain.{Chain}
-use Rattle.ap_shparse.specs.declared.tree.Nul.{Nul}
 use Rattle.ap_shparse.specs.declared.tree.Nul.TheVariants as nul
 use Rattle.ap_shparse.proofs.KeptPlaces.{PKeeps, place}
 use Rattle.ap_shparse.proofs.KeptItems.{pkeeps_chain, pkeeps_list}
-use Rattle.ap_shparse.proofs.FrontLemmas.{FrontLeft, IsFront as FrontOf, Items, err_of, front_left, less_left, no_err, some_left}
-use Rattle.ap_shparse.proofs.GrownLemmas.{grown}
+use Rattle.ap_shparse.proofs.FrontLemmas.{FrontLeft, Items, front_left, less_left, no_err, some_left}
 use Rattle.ap_shparse.proofs.LongestLemmas.{longest}
 
-abbrev items : Items
+abbrev pub items : Items
 items = chain (list 64)
 
-kept : PKeeps items items
+pub kept : PKeeps items items
 kept = pkeeps_chain (list 64) (pkeeps_list 64)
 
 -- ---- a text as it is
@@ -38,7 +36,7 @@ pub record Split (t : Text) (l : ℕ) : Type 0 where
   pub turns : List Turn
   pub is_front : front whole ≡ Some turns
 
-is_there : {X : Type 0} (o : Option X) → is_some o ≡ true → (x : X) × (o ≡ Some x)
+pub is_there : {X : Type 0} (o : Option X) → is_some o ≡ true → (x : X) × (o ≡ Some x)
 is_there None e = cc
 is_there (Some x) e = (x, refl)
 
@@ -53,7 +51,7 @@ as_front : (x : Text) (ts : List Turn) → front_from items (length x) [] (alone
 unfolding front
 as_front x ts e = e
 
-from_front : (x : Text) (ts : List Turn) → front x ≡ Some ts → front_from items (length x) [] (alone x) ≡ Some ts
+pub from_front : (x : Text) (ts : List Turn) → front x ≡ Some ts → front_from items (length x) [] (alone x) ≡ Some ts
 unfolding front
 from_front x ts e = e
 
@@ -67,9 +65,14 @@ split_of t l e = by_less (eq-or-lt_of_le (less_left items (length t) (length t) 
         let r = f.is_front.reads (length f.is_front.front) (omega arith) [] in
         let w = is_there (front_from items (length f.is_front.front) [] (place f.is_front.front f.is_front.bodies [])) r in
         record {
-          whole = f.is_front.front; rest = f.rest; spelling = f.is_front.is_text; is_long = f.is_long; turns = w.0;
+          whole = f.is_front.front;
+          rest = f.rest;
+          spelling = f.is_front.is_text;
+          is_long = f.is_long;
+          turns = w.0;
           is_front = as_front f.is_front.front w.0 (ap (λ y. front_from items (length f.is_front.front) [] y) (sym (ap (λ y. place f.is_front.front y []) b ∙ alone_place f.is_front.front)) ∙ w.1);
         }
+
     by_less : (l ≡ length t) ⊎ (l < length t) → Split t l
     by_less (inl same) = record { whole = []; rest = t; spelling = refl; is_long = sym same; turns = []; is_front = front_nothing }
     by_less (inr less) =
@@ -152,7 +155,10 @@ outside_kept t l e =
     let m = split_of t l e in
     record {
       none = no_script t l e;
-      whole = m.whole; rest = m.rest; items = chains m.turns; spelling = m.spelling;
+      whole = m.whole;
+      rest = m.rest;
+      items = chains m.turns;
+      spelling = m.spelling;
       is_long = omega (arith, ap length m.spelling, length-append m.whole m.rest, m.is_long);
       is_front = (m.turns, m.is_front, refl);
       longest = λ a b cs q f. omega (arith, within t a b l f.0 e q f.1, ap length q, length-append a b);
@@ -167,7 +173,10 @@ outside_dropped t l e =
     let w : shown (take at t) ≡ m.whole = shown_front k t (omega arith) ∙ ap (take k) m.spelling ∙ ap (λ n. take n (m.whole ++ m.rest)) (sym long) ∙ take-append_seam m.whole m.rest in
     record {
       none = no_script (shown t) l e;
-      whole = take at t; rest = drop at t; items = chains m.turns; spelling = sym (take-append-drop at t);
+      whole = take at t;
+      rest = drop at t;
+      items = chains m.turns;
+      spelling = sym (take-append-drop at t);
       is_long = length-take-le at t (past_short k t);
       is_front = (m.turns, ap front w ∙ m.is_front, refl);
       longest = λ a b cs q f.

@@ -1,6 +1,6 @@
 -- The shell grammar as the callers see it: which script a text is, in both readings of NUL (POSIX.1, 2.10; that NUL is kept or
 -- dropped is this project's own).
-use Rattle.std.specs.Prelude.{◌≡◌, ◌≤◌, ℕ, zero, suc, List, [], ◌∷◌, ◌++◌, Option, Some, Result, Ok, Err, ◌==◌, not, if◌then◌else◌, length, filter}
+use Rattle.std.specs.Prelude.{◌≡◌, ◌≤◌, ℕ, zero, suc, List, [], ◌∷◌, ◌++◌, Some, Result, Ok, Err, ◌==◌, not, if◌then◌else◌, length, filter}
 use Rattle.ap_shparse.specs.Bytes.{Text}
 use Rattle.ap_shparse.specs.Fronts.{NoneStops, chains, front}
 use Rattle.ap_shparse.specs.Scripts.{script}

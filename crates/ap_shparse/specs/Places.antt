@@ -1,5 +1,5 @@
 -- Where a reading stands in a text, and the here-documents that wait there (POSIX.1, 2.7.4).
-use Rattle.std.specs.Prelude.{ℕ, zero, suc, List, [], ◌∷◌, ◌++◌, Option, Some, None, Bool, false, ◌&&◌, ◌-◌, not, if◌then◌else◌, length, is_some, drop}
+use Rattle.std.specs.Prelude.{ℕ, zero, suc, [], ◌∷◌, ◌++◌, Option, Some, None, Bool, false, ◌&&◌, ◌-◌, not, if◌then◌else◌, length, is_some, drop}
 use Rattle.ap_shparse.specs.Bytes.{Text, after, begins_with, enders, ends_word, gap, is_among, past, past_byte, run}
 use Rattle.ap_shparse.specs.Reads.{Outcome, and_then, if_eaten, pure}
 use Rattle.ap_shparse.specs.Pieces.{expect, pieces}

@@ -1,5 +1,5 @@
 -- A whole text: the script that it is, or what is left where the first item begins that can't be taken.
-use Rattle.std.specs.Prelude.{◌≡◌, ℕ, zero, suc, List, [], ◌∷◌, ◌++◌, Some, None, Result, Ok, Err, Bool, ◌&&◌, ◌-◌, not, if◌then◌else◌, length, is_some, min}
+use Rattle.std.specs.Prelude.{◌≡◌, ℕ, zero, suc, List, [], ◌∷◌, ◌++◌, Some, None, Result, Ok, Err, Bool, ◌&&◌, ◌-◌, not, if◌then◌else◌, length, min}
 use Rattle.ap_shparse.specs.Bytes.{Text}
 use Rattle.ap_shparse.specs.Reads.{Outcome, and_then, if_eaten}
 use Rattle.ap_shparse.specs.Places.{Place, newlines, past_gap, waits}

@@ -1,6 +1,6 @@
 -- Words and assignments (POSIX.1, 2.3, 2.4 and 2.9.1).
-use Rattle.std.specs.Prelude.{ℕ, List, [], ◌∷◌, Some, None, Bool, false, ◌==◌, ◌||◌, ◌&&◌, not, if◌then◌else◌, is_some}
-use Rattle.ap_shparse.specs.Bytes.{begins_with, Text, after, is_among, is_plain, past, past_byte}
+use Rattle.std.specs.Prelude.{ℕ, List, [], ◌∷◌, Some, None, Bool, false, ◌==◌, ◌||◌, ◌&&◌, not, if◌then◌else◌}
+use Rattle.ap_shparse.specs.Bytes.{begins_with, Text, after, is_among, is_plain, past}
 use Rattle.ap_shparse.specs.Reads.{Outcome, and_then, if_eaten, pure}
 use Rattle.ap_shparse.specs.Pieces.{begins_name, expect, name, parts_of, pieces}
 use Rattle.ap_shparse.specs.Places.{bracket}

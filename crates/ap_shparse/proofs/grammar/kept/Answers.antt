@@ -1,4 +1,4 @@
-use Rattle.std.proofs.Common.{◌≡◌, sym, subst}
+use Rattle.std.proofs.Common.{sym, subst}
 use Rattle.ap_shparse.specs.Grammar.{IsOutside}
 use Rattle.ap_shparse.specs.declared.tree.Nul.TheVariants as nul
 use Rattle.ap_shparse.proofs.OutsideLemmas.{outside_kept}
