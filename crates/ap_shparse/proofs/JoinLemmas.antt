@@ -8,7 +8,7 @@ use Rattle.ap_shparse.specs.Places.{Place, behind, newlines, newlines_from, past
 use Rattle.ap_shparse.specs.Commands.{alone, is_nil}
 use Rattle.ap_shparse.specs.Scripts.{Answer, by_turn, left_at, script, script_from, turn}
 use Rattle.ap_shparse.specs.Fronts.{NoneStops, chains, front, front_from}
-use Rattle.ap_shparse.specs.Grammar.{EndsLine, IsLineFront, IsScript, seen}
+use Rattle.ap_shparse.specs.Grammar.{EndsLine, IsLineFront, IsScript, IsStopped, behind_one, seen, to_stop}
 use Rattle.ap_shparse.specs.declared.class.Class.{Class}
 use Rattle.ap_shparse.specs.declared.class.Class.TheVariants.{Blank, Comment}
 use Rattle.ap_shparse.specs.declared.script.Turn.{Turn}
@@ -326,3 +326,69 @@ lines_then n a b cs ds f s =
 
 pub one_script : (n : Nul) (t : Text) (cs ds : List Chain) → IsScript n t cs → IsScript n t ds → cs ≡ ds
 one_script n t cs ds e w = ok_of cs ds (sym e ∙ w)
+
+-- ---- a stopping command
+
+pub record StopsText (item : Items) (n : ℕ) (ts : List Turn) (p : Place) (us : List Turn) : Type 0 where
+  pub more : List Turn
+  pub is_more : us ≡ ts ++ more
+  pub same : (cs : List Chain) → to_stop more ≡ Some cs → (b : Text) (m : ℕ) → n ≤ m → (left : ℕ) (found : List Chain) → script_from item m left found (grown p b) ≡ Ok (found ++ cs)
+
+stops_nothing : (item : Items) (n : ℕ) (ts : List Turn) (p q : Place) (us : List Turn) → AtStop q ts us → StopsText item n ts p us
+stops_nothing item n ts p q us s = record { more = []; is_more = sym s.same ∙ sym (append-nil ts); same = λ cs e. absurd (no_items cs e) }
+  where
+    no_items : (cs : List Chain) → None ≡ Some cs → ⊥
+    no_items cs e = cc
+
+pub stops_text : (item : Items) → PKeeps item item → (n : ℕ) (ts : List Turn) (p : Place) (us : List Turn) → front_from item n ts p ≡ Some us → StopsText item n ts p us
+stops_text item k zero ts p us e =
+    let o = opened item zero ts p us e in
+    elim (stop_or_item item zero ts o.start us o.is_rest) [
+      | inl s ↦ stops_nothing item zero ts p o.start us s
+      | inr i ↦ absurd (omega (arith, i.is_fuel))
+    ]
+stops_text item k (suc n) ts p us e =
+    let o = opened item (suc n) ts p us e in
+    by_kind o.start o.is_start (stop_or_item item (suc n) ts o.start us o.is_rest) (λ vs s d. stops_text item k n vs s us d)
+  where
+    by_rest : (x : Chain) (s : Place) (vs : List Turn) (b : Text) (m l : ℕ) (found cs : List Chain) (o : Option (List Chain)) → to_stop vs ≡ o → behind_one x o ≡ Some cs
+        → ((ds : List Chain) → to_stop vs ≡ Some ds → (left : ℕ) (found : List Chain) → script_from item m left found (grown s b) ≡ Ok (found ++ ds)) → script_from item m l (found ++ x ∷ []) (grown s b) ≡ Ok (found ++ cs)
+    by_rest x s vs b m l found cs None v e rec = cc
+    by_rest x s vs b m l found cs (Some ds) v e rec = rec ds v l (found ++ x ∷ []) ∙ ap (λ y. Ok y) (append_assoc found (x ∷ []) ds ∙ ap (λ y. found ++ y) (of_some (x ∷ ds) cs e))
+      where
+        of_some : (a c : List Chain) → Some a ≡ Some c → a ≡ c
+        of_some a c e = cc
+
+    by_next : (t : Turn) (s : Place) (vs : List Turn) (b : Text) (m l : ℕ) (found cs : List Chain) → to_stop (t ∷ vs) ≡ Some cs
+        → ((ds : List Chain) → to_stop vs ≡ Some ds → (left : ℕ) (found : List Chain) → script_from item m left found (grown s b) ≡ Ok (found ++ ds)) → by_turn (script_from item m) l found (Some (t, grown s b)) ≡ Ok (found ++ cs)
+    by_next turned.End s vs b m l found cs e rec = cc
+    by_next (turned.Last x) s vs b m l found cs e rec = let q : x ∷ [] ≡ cs = cc in ap (λ y. Ok (found ++ y)) q
+    by_next (turned.Next x) s vs b m l found cs e rec = by_rest x s vs b m l found cs (to_stop vs) refl e rec
+
+    by_kind : (q : Place) → newlines p ≡ Some q → AtStop q ts us ⊎ AtItem item (suc n) ts q us → ((vs : List Turn) (s : Place) → front_from item n vs s ≡ Some us → StopsText item n vs s us) → StopsText item (suc n) ts p us
+    by_kind q is (inl s) rec = stops_nothing item (suc n) ts p q us s
+    by_kind q is (inr i) rec =
+        let f : i.fuel ≡ n = omega (arith, i.is_fuel) in
+        let d = ap (λ x. front_from item x (ts ++ i.turn_is ∷ []) i.next) (sym f) ∙ i.is_rest in
+        let o = opened item n (ts ++ i.turn_is ∷ []) i.next us d in
+        let j = rec (ts ++ i.turn_is ∷ []) i.next d in
+        record {
+          more = i.turn_is ∷ j.more;
+          is_more = j.is_more ∙ append_assoc ts (i.turn_is ∷ []) j.more;
+          same = λ cs c b. elim [
+            | zero ↦ λ le left found. absurd (omega (arith, le))
+            | suc m ↦ λ le left found.
+                let y = grown_item item k p q i.next i.turn_is b is i.is_item o.uncut in
+                script_next item m left found (grown p b) y.start i.turn_is (grown i.next b) y.is_start y.is_turn
+                ∙ by_next i.turn_is i.next j.more b m (left_at left y.start) found cs c (λ ds v l z. j.same ds v b m (omega (arith, le)) l z)
+          ];
+        }
+
+stop_texts : (x y : Text) (ts : List Turn) (cs : List Chain) → front x ≡ Some ts → to_stop ts ≡ Some cs → script (x ++ y) ≡ Ok cs
+unfolding script
+stop_texts x y ts cs e s =
+    let j = stops_text items kept (length x) [] (alone x) ts (from_front x ts e) in
+    j.same cs (ap to_stop (sym j.is_more) ∙ s) y (length (x ++ y)) (omega (arith, length-append x y)) (length (x ++ y)) []
+
+pub stopped_then : (n : Nul) (a b : Text) (cs : List Chain) → IsStopped n a cs → IsScript n (a ++ b) cs
+stopped_then n a b cs f = ap script (seen-append n a b) ∙ stop_texts (seen n a) (seen n b) f.turns cs f.is_front f.stops

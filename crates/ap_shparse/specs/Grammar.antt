@@ -1,10 +1,11 @@
 -- The shell grammar as the callers see it: which script a text is, in both readings of NUL (POSIX.1, 2.10; that NUL is kept or
 -- dropped is this project's own).
-use Rattle.std.specs.Prelude.{◌≡◌, ◌≤◌, ℕ, zero, suc, List, [], ◌∷◌, ◌++◌, Some, Result, Ok, Err, ◌==◌, not, if◌then◌else◌, length, filter}
+use Rattle.std.specs.Prelude.{◌≡◌, ◌≤◌, ℕ, zero, suc, List, [], ◌∷◌, ◌++◌, Some, Result, Ok, Err, ◌==◌, not, if◌then◌else◌, length, filter, Option, None}
 use Rattle.ap_shparse.specs.Bytes.{Text}
 use Rattle.ap_shparse.specs.Fronts.{NoneStops, chains, front}
 use Rattle.ap_shparse.specs.Scripts.{script}
 use Rattle.ap_shparse.specs.declared.script.Turn.{Turn}
+use Rattle.ap_shparse.specs.declared.script.Turn.TheVariants as turned
 use Rattle.ap_shparse.specs.declared.tree.Chain.{Chain}
 use Rattle.ap_shparse.specs.declared.tree.Nul.{Nul}
 use Rattle.ap_shparse.specs.declared.tree.Nul.TheVariants as nul
@@ -67,3 +68,22 @@ pub record IsLineFront (n : Nul) (a : Text) (cs : List Chain) : Type 0 where
   pub ends_line : EndsLine (seen n a)
   pub none_stops : NoneStops turns
   pub value : cs ≡ chains turns
+
+-- ---- stopping commands
+
+abbrev pub behind_one : Chain → Option (List Chain) → Option (List Chain)
+behind_one c None = None
+behind_one c (Some cs) = Some (c ∷ cs)
+
+-- the items as far as the first stopping command
+abbrev pub to_stop : List Turn → Option (List Chain)
+to_stop [] = None
+to_stop (turned.Last c ∷ ts) = Some (c ∷ [])
+to_stop (turned.Next c ∷ ts) = behind_one c (to_stop ts)
+to_stop (turned.End ∷ ts) = None
+
+-- a whole front with a stopping command, and its items as far as the first one
+pub record IsStopped (n : Nul) (a : Text) (cs : List Chain) : Type 0 where
+  pub turns : List Turn
+  pub is_front : front (seen n a) ≡ Some turns
+  pub stops : to_stop turns ≡ Some cs

@@ -1,6 +1,6 @@
 //! What holds of the grammar itself.
 ghost use Rattle.std.specs.Prelude.{List, ℕ, ◌++◌, ◌≡◌};
-ghost use Rattle.ap_shparse.specs.Grammar.{IsLineFront, IsScript};
+ghost use Rattle.ap_shparse.specs.Grammar.{IsLineFront, IsScript, IsStopped};
 ghost use Rattle.ap_shparse.specs.declared.tree.Chain.{Chain};
 ghost use Rattle.ap_shparse.specs.declared.tree.Nul.{Nul};
 
@@ -9,6 +9,12 @@ ghost use Rattle.ap_shparse.specs.declared.tree.Nul.{Nul};
 pub fn lines_then_text()
     ensures { (n : Nul) (a b : List ℕ) (cs ds : List Chain)
         → IsLineFront n a cs → IsScript n b ds → IsScript n (a ++ b) (cs ++ ds) }
+{}
+
+/// A text that begins with a whole front which has a stopping command is in the grammar, whatever follows, and its script
+/// is the items as far as the first such command.
+pub fn stopped_fronts_are_scripts()
+    ensures { (n : Nul) (a b : List ℕ) (cs : List Chain) → IsStopped n a cs → IsScript n (a ++ b) cs }
 {}
 
 /// A text has at most one script.
