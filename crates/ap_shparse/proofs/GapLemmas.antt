@@ -1,19 +1,16 @@
 -- Blanks, comments and newlines to the end of a text, and before another one.
-use Rattle.std.proofs.Common.{◌≡◌, ◌∙◌, ◌≤◌, ◌<◌, ◌+◌, ◌-◌, ℕ, zero, suc, List, [], ◌∷◌, ◌++◌, ◌⊎◌, inl, inr, refl, sym, ap, ap₂, subst, Bool, true, false, cond, if◌then◌else◌, ◌||◌, ◌&&◌, ◌==◌, not, length, arith, length-append, append-nil, drop, length-drop, append_assoc}
+use Rattle.std.proofs.Common.{◌≡◌, ◌∙◌, ◌≤◌, ◌-◌, ℕ, zero, suc, [], ◌∷◌, ◌++◌, inr, refl, sym, ap, Bool, true, false, if◌then◌else◌, ◌==◌, length, arith, length-append, append-nil, length-drop, append_assoc}
 use Rattle.std.specs.Prelude.{Option, Some, None, is_some, option_map}
-use Rattle.std.proofs.lemmas.Bool.Decides.{nat_tests}
-use Rattle.ap_shparse.specs.Bytes.{Text, after, gap, has, past_byte, past_comment, run}
-use Rattle.ap_shparse.specs.Reads.{Outcome, if_eaten}
-use Rattle.ap_shparse.specs.Places.{Place, at_text, behind, last, newlines, newlines_by, newlines_from, next_line, no_newline, past_gap, past_newline}
-use Rattle.ap_shparse.specs.Commands.{alone, is_nil}
+use Rattle.ap_shparse.specs.Bytes.{Text, after, gap, has, past_comment, run}
+use Rattle.ap_shparse.specs.Reads.{if_eaten}
+use Rattle.ap_shparse.specs.Places.{Place, at_text, behind, newlines_by, newlines_from, no_newline, past_gap, past_newline}
 use Rattle.ap_shparse.specs.declared.class.Class.{Class}
 use Rattle.ap_shparse.specs.declared.class.Class.TheVariants.{Blank, Comment}
-use Rattle.ap_shparse.proofs.Keeps.{Has, inner}
+use Rattle.ap_shparse.proofs.Keeps.{inner}
 use Rattle.ap_shparse.proofs.KeptRuns.{kept_gap}
-use Rattle.ap_shparse.proofs.KeptPieces.{longer, never_some}
 use Rattle.ap_shparse.proofs.KeptHere.{NotNil}
-use Rattle.ap_shparse.proofs.KeptPlaces.{Left, Some_, place}
-use Rattle.ap_shparse.proofs.KeptLines.{Fits, PKeptPast, at_newline, fits, has_some, kept_newline}
+use Rattle.ap_shparse.proofs.KeptPlaces.{Some_, place}
+use Rattle.ap_shparse.proofs.KeptLines.{at_newline, fits, kept_newline}
 
 -- ---- lengths
 
@@ -83,7 +80,7 @@ lines_short (suc n) p q e = by_newline (past_newline (past_gap p)) refl e (λ s 
 
 -- ---- a gap to the end
 
-after_nothing : (k : Class) (t b : Text) → after k t ≡ [] → after k (t ++ b) ≡ after k b
+pub after_nothing : (k : Class) (t b : Text) → after k t ≡ [] → after k (t ++ b) ≡ after k b
 after_nothing k [] b e = refl
 after_nothing k (c ∷ t) b e = by_has (has k c) refl e (after_nothing k t b)
   where
@@ -124,7 +121,7 @@ run_whole k (c ∷ t) = by_has (has k c) refl (run_whole k t)
     by_has false is rec = refl
 
 -- what follows a gap that went to the end is no longer than what was added
-gap_more : (t b : Text) → gap t ≡ [] → length (gap (t ++ b)) ≤ length b
+pub gap_more : (t b : Text) → gap t ≡ [] → length (gap (t ++ b)) ≤ length b
 unfolding gap past_comment
 gap_more t b e = by_blanks (after Blank t) refl e
   where
@@ -133,6 +130,7 @@ gap_more t b e = by_blanks (after Blank t) refl e
         let l : past_comment (after Blank (t ++ b)) ≡ after Comment b = ap past_comment (after_some Blank t b y w q) ∙ ap (λ v. if v then after Comment (w ++ b) else y ∷ (w ++ b)) is ∙ after_nothing Comment w b e in
         omega (arith, ap length l, after_short Comment b)
     by_hash y w q false is e = cc
+
     by_blanks : (v : Text) → after Blank t ≡ v → past_comment v ≡ [] → length (past_comment (after Blank (t ++ b))) ≤ length b
     by_blanks [] q e =
         let l : past_comment (after Blank (t ++ b)) ≡ past_comment (after Blank b) = ap past_comment (after_nothing Blank t b q) in
@@ -166,6 +164,7 @@ gap_alone t = by_blanks (after Blank t) refl
           spelling = run_front Blank t ∙ ap (λ z. run Blank t ++ z) (q ∙ sym g);
           alone_gap = ap past_comment (run_whole Blank t);
         }
+
     by_blanks : (v : Text) → after Blank t ≡ v → GapAlone t
     by_blanks [] q = let g : gap t ≡ [] = ap past_comment q in record { front = t; spelling = sym (append-nil t) ∙ ap (λ z. t ++ z) (sym g); alone_gap = g }
     by_blanks (y ∷ w) q = by_hash y w q (y == 35) refl
@@ -198,9 +197,13 @@ gap_here : (p q : Place) → past_gap p ≡ q → q.bodies ≡ None → LinesAlo
 gap_here p q g n =
     let m = gap_alone p.text in
     record {
-      front = m.front; bodies = None; tail = q.text;
+      front = m.front;
+      bodies = None;
+      tail = q.text;
       is_text = m.spelling ∙ ap (λ z. m.front ++ z) (ap (λ y. y.text) g);
-      is_bodies = ap (λ y. y.bodies) g ∙ n; as_long = refl; some = tt;
+      is_bodies = ap (λ y. y.bodies) g ∙ n;
+      as_long = refl;
+      some = tt;
       same = λ k le. stays k (place m.front None []) nothing (ap (λ z. at_text (place m.front None []) z) (ap gap (append-nil m.front) ∙ m.alone_gap)) refl;
     }
 
@@ -229,11 +232,19 @@ lines_alone (suc m) p q e n s = by_newline (past_newline (past_gap p)) refl e (�
         let u = kept_newline (past_gap p) y front q.text is t f in
         let g = kept_gap p.text u.front q.text u.left.is_text u.left.has_stop in
         record {
-          front = g.front; bodies = u.bodies; tail = u.tail; is_text = g.spelling; is_bodies = u.left.is_bodies; as_long = u.left.as_long; some = u.left.some;
+          front = g.front;
+          bodies = u.bodies;
+          tail = u.tail;
+          is_text = g.spelling;
+          is_bodies = u.left.is_bodies;
+          as_long = u.left.as_long;
+          some = u.left.some;
           same = elim [
-              zero ↦ λ le. absurd (omega (arith, le, u.eats, g.eats))
-            | suc j ↦ λ le. goes_on j (place g.front u.bodies []) (place u.front u.bodies []) (place front None []) (ap (λ z. at_text (place g.front u.bodies []) z) (g.same [])) (u.same []) ∙ same j (omega (arith, le, u.eats, g.eats)) ];
+            | zero ↦ λ le. absurd (omega (arith, le, u.eats, g.eats))
+            | suc j ↦ λ le. goes_on j (place g.front u.bodies []) (place u.front u.bodies []) (place front None []) (ap (λ z. at_text (place g.front u.bodies []) z) (g.same [])) (u.same []) ∙ same j (omega (arith, le, u.eats, g.eats))
+          ];
         }
+
     by_newline : (o : Option Place) → past_newline (past_gap p) ≡ o → if_eaten o (newlines_from m) (Some (past_gap p)) ≡ Some q → ((y : Place) → newlines_from m y ≡ Some q → LinesAlone y q.text) → LinesAlone p q.text
     by_newline None is e rec = gap_here p q (inner (past_gap p) q e) n
     by_newline (Some y) is e rec = let k = rec y e in by_line y is k.front k.bodies k.tail k.is_text k.is_bodies k.same

@@ -1,8 +1,8 @@
 -- An item with its end, before any other text.
-use Rattle.std.proofs.Common.{◌≡◌, ◌∙◌, ◌≤◌, ◌<◌, ◌+◌, ◌-◌, ℕ, zero, suc, List, [], ◌∷◌, ◌++◌, ◌⊎◌, inl, inr, refl, sym, ap, ap₂, subst, Bool, true, false, cond, if◌then◌else◌, ◌||◌, ◌&&◌, not, length, arith, length-append, append-nil}
+use Rattle.std.proofs.Common.{◌≡◌, ◌∙◌, ◌≤◌, ◌+◌, [], ◌∷◌, ◌++◌, refl, sym, ap, Bool, true, false, if◌then◌else◌, length, arith, append-nil}
 use Rattle.std.specs.Prelude.{Option, Some, None, is_some, option_map}
-use Rattle.ap_shparse.specs.Bytes.{Text, gap}
-use Rattle.ap_shparse.specs.Reads.{Outcome, and_then, eaten, if_eaten, pure}
+use Rattle.ap_shparse.specs.Bytes.{Text}
+use Rattle.ap_shparse.specs.Reads.{Outcome, and_then, eaten, pure}
 use Rattle.ap_shparse.specs.Places.{Place, at_text, past_gap, past_newline, waits}
 use Rattle.ap_shparse.specs.Commands.{is_nil}
 use Rattle.ap_shparse.specs.Lists.{ended, past_end}
@@ -12,9 +12,8 @@ use Rattle.ap_shparse.specs.declared.item.Item.{Item}
 use Rattle.ap_shparse.specs.declared.script.Turn.{Turn}
 use Rattle.ap_shparse.specs.declared.tree.Chain.{Chain}
 use Rattle.ap_shparse.specs.declared.script.Turn.TheVariants as turned
-use Rattle.ap_shparse.proofs.Keeps.{Has, both_of, inner, left_of, right_of}
+use Rattle.ap_shparse.proofs.Keeps.{Has, both_of, left_of, right_of}
 use Rattle.ap_shparse.proofs.KeptRuns.{kept_gap}
-use Rattle.ap_shparse.proofs.KeptHere.{NotNil}
 use Rattle.ap_shparse.proofs.KeptPlaces.{Left, PKeeps, Some_, place}
 use Rattle.ap_shparse.proofs.KeptLines.{Fits}
 use Rattle.ap_shparse.proofs.KeptItems.{Ends, kept_end}
@@ -66,16 +65,26 @@ pub record KeptItem (item : Place → Outcome Place Item) (q y : Place) (i : Ite
   pub same_end : (c : Text) → past_end (place gap_front mid_bodies c) ≡ Some (place r fs c)
 
 pub kept_item : (item : Place → Outcome Place Item) → PKeeps item item → (q y s : Place) (i : Item) (r : Text) (fs : Option Text) (b tail : Text) → item q ≡ Some (i, y) → past_end (past_gap y) ≡ Some s → Ends s r fs b tail
-    → Fits y.bodies b → KeptItem item q y i r fs b
+    → (past_newline (past_gap y) ≡ Some s → Fits y.bodies b) → KeptItem item q y i r fs b
 kept_item item k q y s i r fs b tail e n l f =
-    let m = kept_end (past_gap y) s r fs b tail n l (λ _. f) in
+    let m = kept_end (past_gap y) s r fs b tail n l f in
     let g = kept_gap y.text m.front b m.left.is_text m.left.has_stop in
     let d : Left y g.front m.bodies b m.tail = record { is_text = g.spelling; is_bodies = m.left.is_bodies; as_long = m.left.as_long; has_stop = g.has_stop; some = m.left.some } in
     let u = k q i y g.front m.bodies b m.tail e d in
     record {
-      front = u.front; bodies = u.bodies; tail = u.tail; left = u.left; eats = omega (arith, u.eats, g.eats, m.eats);
-      mid = g.front; mid_bodies = m.bodies; mid_tail = m.tail; is_mid = m.left.is_bodies; mid_some = m.left.some;
-      gap_front = m.front; has_gap = m.left.has_stop; is_gap = m.left.is_text;
+      front = u.front;
+      bodies = u.bodies;
+      tail = u.tail;
+      left = u.left;
+      eats = omega (arith, u.eats, g.eats, m.eats);
+      mid = g.front;
+      mid_bodies = m.bodies;
+      mid_tail = m.tail;
+      is_mid = m.left.is_bodies;
+      mid_some = m.left.some;
+      gap_front = m.front;
+      has_gap = m.left.has_stop;
+      is_gap = m.left.is_text;
       same_item = u.same;
       same_gap = λ c. ap (λ z. at_text (place g.front m.bodies c) z) (g.same c);
       same_end = m.same;
@@ -176,6 +185,7 @@ read_next item q c s e = by_nil (is_nil q.text) refl e
       is_read = record { item_of = i; behind = y; is_item = is; is_end = some_end (past_end (past_gap y)) s (turned.Next c) (turn_of i (waits y)) e; is_turn = some_turn (past_end (past_gap y)) s (turned.Next c) (turn_of i (waits y)) e };
       not_nil = n;
     }
+
     by_nil : (v : Bool) → is_nil q.text ≡ v → (if v then nil_turn q else and_then (item q) (λ j z. at_end j (past_gap z))) ≡ Some (turned.Next c, s) → ReadNext item q (turned.Next c) s
     by_nil true n e = absurd (end_not_next (waits q) q s c e)
     by_nil false n e =

@@ -1,8 +1,8 @@
 -- What is read of a text stays read when another text follows, where what is left before it has a newline, `;` or `)`.
-use Rattle.std.proofs.Common.{◌≡◌, ◌∙◌, ◌≤◌, ◌+◌, ℕ, zero, suc, List, [], ◌∷◌, ◌++◌, ◌⊎◌, inl, inr, refl, sym, ap, ap₂, subst, Bool, true, false, cond, if◌then◌else◌, ◌||◌, ◌&&◌, ◌==◌, not, length, arith}
-use Rattle.std.specs.Prelude.{Option, Some, None, is_some}
+use Rattle.std.proofs.Common.{◌≡◌, ◌∙◌, ◌≤◌, ◌+◌, ℕ, List, [], ◌∷◌, ◌++◌, ◌⊎◌, inl, inr, refl, sym, ap, Bool, true, false, if◌then◌else◌, ◌||◌, ◌==◌, length, arith}
+use Rattle.std.specs.Prelude.{Option, Some, None}
 use Rattle.std.proofs.lemmas.Bool.Decides.{nat_tests}
-use Rattle.ap_shparse.specs.Bytes.{Text, after, ends_word, has, past, past_byte, run}
+use Rattle.ap_shparse.specs.Bytes.{Text, ends_word, past, past_byte}
 use Rattle.ap_shparse.specs.Reads.{Outcome, and_then, eaten, if_eaten, pure}
 
 -- newline, `;` and `)`
@@ -101,13 +101,19 @@ kept_if n q P P' Q Q' same kp kq t a r b e h = by_test (q t) refl e
     by_test true is e =
         let k = kp t a r b e h in
         record {
-          front = k.front; spelling = k.spelling; has_stop = k.has_stop; eats = k.eats;
+          front = k.front;
+          spelling = k.spelling;
+          has_stop = k.has_stop;
+          eats = k.eats;
           same = λ c. ap (λ v. if v then P' (k.front ++ c) else Q' (k.front ++ c)) (same k.front c k.has_stop ∙ sym (same k.front b k.has_stop) ∙ ap q (sym k.spelling) ∙ is) ∙ k.same c;
         }
     by_test false is e =
         let k = kq t a r b e h in
         record {
-          front = k.front; spelling = k.spelling; has_stop = k.has_stop; eats = k.eats;
+          front = k.front;
+          spelling = k.spelling;
+          has_stop = k.has_stop;
+          eats = k.eats;
           same = λ c. ap (λ v. if v then P' (k.front ++ c) else Q' (k.front ++ c)) (same k.front c k.has_stop ∙ sym (same k.front b k.has_stop) ∙ ap q (sym k.spelling) ∙ is) ∙ k.same c;
         }
 
@@ -146,14 +152,20 @@ kept_if_eaten l n m o le lo E f f' g g' k kf kg t a r b e h = by_eaten (E t) ref
     by_eaten None is e =
         let j = kg t a r b e h in
         record {
-          front = j.front; spelling = j.spelling; has_stop = j.has_stop; eats = omega (arith, j.eats, lo);
+          front = j.front;
+          spelling = j.spelling;
+          has_stop = j.has_stop;
+          eats = omega (arith, j.eats, lo);
           same = λ c. ap (λ w. if_eaten w f' (g' (j.front ++ c))) (k.none j.front b c (ap E (sym j.spelling) ∙ is) j.has_stop) ∙ j.same c;
         }
     by_eaten (Some u) is e =
         let j = kf u a r b e h in
         let w = k.past t j.front b (is ∙ ap (λ v. Some v) j.spelling) j.has_stop in
         record {
-          front = w.front; spelling = w.spelling; has_stop = w.has_stop; eats = omega (arith, j.eats, w.eats, le);
+          front = w.front;
+          spelling = w.spelling;
+          has_stop = w.has_stop;
+          eats = omega (arith, j.eats, w.eats, le);
           same = λ c. ap (λ z. if_eaten z f' (g' (w.front ++ c))) (w.same c) ∙ j.same c;
         }
 
@@ -172,12 +184,15 @@ eats_byte k = record { past = some; none = nothing }
     by_byte true d t u b is e h =
         record { front = d ∷ u; spelling = ap (λ y. d ∷ y) (inner t (u ++ b) e); has_stop = inr h; eats = omega arith; same = λ c. ap (λ v. if v then Some (u ++ c) else None) is }
     by_byte false d t u b is e h = cc
+
     some : (x u b : Text) → past_byte k x ≡ Some (u ++ b) → Has u → KeptPast 1 (past_byte k) x u b
     some [] u b e h = cc
     some (d ∷ t) u b e h = by_byte (d == k) d t u b refl e h
+
     no_byte : (v : Bool) (d : ℕ) (t b c : Text) → (d == k) ≡ v → (if v then Some (t ++ b) else None) ≡ None → past_byte k (d ∷ (t ++ c)) ≡ None
     no_byte true d t b c is e = cc
     no_byte false d t b c is e = ap (λ v. if v then Some (t ++ c) else None) is
+
     nothing : (t b c : Text) → past_byte k (t ++ b) ≡ None → Has t → past_byte k (t ++ c) ≡ None
     nothing [] b c e h = absurd h
     nothing (d ∷ t) b c e h = no_byte (d == k) d t b c refl e
@@ -201,15 +216,21 @@ eats_nothing = record { past = some; none = nothing }
     by_end true t u b is e h =
         let q = inner t (u ++ b) e in
         record {
-          front = u; spelling = q; has_stop = h; eats = omega arith;
+          front = u;
+          spelling = q;
+          has_stop = h;
+          eats = omega arith;
           same = λ c. ap (λ v. if v then Some (u ++ c) else None) (ends_word_same u c h ∙ sym (ends_word_same u b h) ∙ ap ends_word (sym q) ∙ is);
         }
     by_end false t u b is e h = cc
+
     some : (x u b : Text) → past [] x ≡ Some (u ++ b) → Has u → KeptPast 0 (past []) x u b
     some x u b e h = by_end (ends_word x) x u b refl e h
+
     no_end : (v : Bool) (t b c : Text) → ends_word (t ++ b) ≡ v → (if v then Some (t ++ b) else None) ≡ None → Has t → past [] (t ++ c) ≡ None
     no_end true t b c is e h = cc
     no_end false t b c is e h = ap (λ v. if v then Some (t ++ c) else None) (ends_word_same t c h ∙ sym (ends_word_same t b h) ∙ is)
+
     nothing : (t b c : Text) → past [] (t ++ b) ≡ None → Has t → past [] (t ++ c) ≡ None
     nothing t b c e h = no_end (ends_word (t ++ b)) t b c refl e h
 
@@ -224,13 +245,16 @@ eats_more k ks lacks rec = record { past = some; none = nothing }
         let m = rec.past t u b e h in
         record { front = d ∷ m.front; spelling = ap (λ y. d ∷ y) m.spelling; has_stop = inr m.has_stop; eats = omega (arith, m.eats); same = λ c. ap (λ v. if v then past ks (m.front ++ c) else None) is ∙ m.same c }
     by_byte false d t u b is e h = cc
+
     some : (x u b : Text) → past (k ∷ ks) x ≡ Some (u ++ b) → Has u → KeptPast 1 (past (k ∷ ks)) x u b
     some [] u b e h = cc
     some (d ∷ t) u b e h = by_byte (d == k) d t u b refl e h
+
     no_byte : (v : Bool) (d : ℕ) (t b c : Text) → (d == k) ≡ v → (if v then past ks (t ++ b) else None) ≡ None → (is_stop d ≡ true) ⊎ Has t → past (k ∷ ks) (d ∷ (t ++ c)) ≡ None
     no_byte true d t b c is e (inl s) = let n = is_same d k is lacks in cc
     no_byte true d t b c is e (inr g) = ap (λ v. if v then past ks (t ++ c) else None) is ∙ rec.none t b c e g
     no_byte false d t b c is e g = ap (λ v. if v then past ks (t ++ c) else None) is
+
     nothing : (t b c : Text) → past (k ∷ ks) (t ++ b) ≡ None → Has t → past (k ∷ ks) (t ++ c) ≡ None
     nothing [] b c e h = absurd h
     nothing (d ∷ t) b c e h = no_byte (d == k) d t b c refl e h

@@ -1,8 +1,8 @@
 -- Simple commands stay when another text follows.
-use Rattle.std.proofs.Common.{◌≡◌, ◌∙◌, ◌≤◌, ◌<◌, ◌+◌, ◌-◌, ℕ, zero, suc, List, [], ◌∷◌, ◌++◌, ◌⊎◌, inl, inr, refl, sym, ap, ap₂, subst, Bool, true, false, cond, if◌then◌else◌, ◌||◌, ◌&&◌, ◌==◌, not, length, arith, length-append}
+use Rattle.std.proofs.Common.{◌≡◌, ◌∙◌, ◌≤◌, ◌+◌, ℕ, zero, suc, List, [], ◌∷◌, ◌++◌, ◌⊎◌, inl, inr, refl, sym, ap, ap₂, subst, Bool, true, false, if◌then◌else◌, ◌||◌, ◌&&◌, ◌==◌, not, length, arith, length-append}
 use Rattle.std.specs.Prelude.{Option, Some, None, is_some, option_map, codes}
-use Rattle.ap_shparse.specs.Bytes.{Text, after, begins_with, ends_word, past, past_byte, run}
-use Rattle.ap_shparse.specs.Reads.{Outcome, and_then, eaten, if_eaten, pure}
+use Rattle.ap_shparse.specs.Bytes.{Text, after, ends_word, past, run}
+use Rattle.ap_shparse.specs.Reads.{Outcome, and_then, pure}
 use Rattle.ap_shparse.specs.Pieces.{expect}
 use Rattle.ap_shparse.specs.Places.{Place, args, at_text, body, body_of, delimiter, here, here_at, lift, line, or_line, waits}
 use Rattle.ap_shparse.specs.Words.{assignment, is_assignment, plain_word}
@@ -16,14 +16,13 @@ use Rattle.ap_shparse.specs.declared.elements.Elements.{Elements}
 use Rattle.ap_shparse.specs.declared.redirect.Operator.{Operator}
 use Rattle.ap_shparse.specs.declared.redirect.Operator.TheVariants as op
 use Rattle.ap_shparse.specs.declared.tree.Simple.{Simple}
-use Rattle.ap_shparse.specs.declared.tree.Target.{Target}
 use Rattle.ap_shparse.specs.declared.tree.Target.TheVariants as target
-use Rattle.ap_shparse.proofs.Keeps.{Eating, Has, IsTest, Lacks, is_same, is_stop, keeps_pure, keeps_then, Kept, KeepsAt, Keeps, Takes, both_of, eats_word, ends_word_same, inner, keeps_takes, left_of, right_of}
-use Rattle.ap_shparse.proofs.KeptRuns.{keeps_taking, kept_after, taking}
-use Rattle.ap_shparse.proofs.KeptPieces.{keeps_expect, longer, never_some, takes_expect}
+use Rattle.ap_shparse.proofs.Keeps.{Has, IsTest, Lacks, is_same, is_stop, keeps_pure, keeps_then, Kept, KeepsAt, Keeps, both_of, ends_word_same, inner, left_of, right_of}
+use Rattle.ap_shparse.proofs.KeptRuns.{keeps_taking, taking}
+use Rattle.ap_shparse.proofs.KeptPieces.{keeps_expect, longer}
 use Rattle.ap_shparse.proofs.KeptWords.{begins_with_same, eats_args, is_assignment_same, keeps_both, keeps_read, keeps_same, keeps_write, redirects_same, takes_assignment, takes_operator, takes_word}
-use Rattle.ap_shparse.proofs.KeptHere.{NotNil, keeps_delimiter, keeps_line, not_nil, whole_body}
-use Rattle.ap_shparse.proofs.KeptPlaces.{Left, PKeeps, PKeepsAt, PKept, PTakes, Some_, pkeeps_pure, pkeeps_then, pkept_then, pkept_if, pkept_if_eaten, pkept_lift, pkept_never, place, pnever, pkeeps_takes, ptakes_then, pthen_takes}
+use Rattle.ap_shparse.proofs.KeptHere.{NotNil, keeps_delimiter, keeps_line, whole_body}
+use Rattle.ap_shparse.proofs.KeptPlaces.{Left, PKeeps, PKeepsAt, PTakes, Some_, pkeeps_pure, pkeeps_then, pkept_then, pkept_if, pkept_if_eaten, pkept_lift, pkept_never, place, pnever}
 
 abbrev pub Subs : (Text → Outcome Text Simple) → Type 0
 Subs sub = Keeps sub sub
@@ -83,7 +82,9 @@ pkeeps_here sub k p a q r (Some s) b tail e l =
     let d = kept_start sub k w.left p.bodies r b m.front tail v.first t (v.is_first ∙ ap (λ u. Some (v.first, u)) m.spelling) m.some l.as_long in
     let o = keeps_delimiter p.text w.first r b (w.is_first ∙ ap (λ u. Some (w.first, u)) t) l.has_stop in
     record {
-      front = o.front; bodies = d.bodies; tail = d.tail;
+      front = o.front;
+      bodies = d.bodies;
+      tail = d.tail;
       left = record { is_text = o.spelling; is_bodies = d.is_bodies; as_long = d.as_long; has_stop = o.has_stop; some = d.some };
       eats = o.eats;
       same = λ c. ap (λ u. and_then u (body_of sub (option_map (λ j. j ++ c) d.bodies))) (o.same c)
@@ -108,15 +109,19 @@ pub pkept_lifted : {A B : Type 0} (n m : ℕ) (f f' : Text → Outcome Text A) (
     → PKeepsAt (n + m) (λ p. and_then (f p.text) (λ a t. g a (at_text p t))) (λ p. and_then (f' p.text) (λ a t. g' a (at_text p t)))
 pkept_lifted n m f f' g g' k kg =
     pkept_same (n + m) (λ p. and_then (lift f p) g) (λ p. and_then (lift f' p) g') _ _
-        (λ p. sym (then_then (f p.text) (λ a t. Some (a, at_text p t)) g)) (λ p. sym (then_then (f' p.text) (λ a t. Some (a, at_text p t)) g'))
-        (pkept_then n m (lift f) (lift f') g g' (pkept_lift n f f' k) kg)
+    (λ p. sym (then_then (f p.text) (λ a t. Some (a, at_text p t)) g)) (λ p. sym (then_then (f' p.text) (λ a t. Some (a, at_text p t)) g'))
+    (pkept_then n m (lift f) (lift f') g g' (pkept_lift n f f' k) kg)
 
 -- something that the text in front decides
 pub pkept_by : {V A : Type 0} (n : ℕ) (v : Text → V) (P P' : V → Place → Outcome Place A) → ((t b : Text) → Has t → v (t ++ b) ≡ v t) → ((x : V) → PKeepsAt n (P x) (P' x)) → PKeepsAt n (λ p. P (v p.text) p) (λ p. P' (v p.text) p)
 pkept_by n v P P' same k p a q r fs b tail e l =
     let m = k (v p.text) p a q r fs b tail e l in
     record {
-      front = m.front; bodies = m.bodies; tail = m.tail; left = m.left; eats = m.eats;
+      front = m.front;
+      bodies = m.bodies;
+      tail = m.tail;
+      left = m.left;
+      eats = m.eats;
       same = λ c. ap (λ x. P' x (place m.front m.bodies c)) (same m.front c m.left.has_stop ∙ sym (same m.front b m.left.has_stop) ∙ ap v (sym m.left.is_text)) ∙ m.same c;
     }
 
@@ -259,7 +264,11 @@ at_end sub e p a q r fs b tail is w l =
     let s = right_of e a (past_blanks p) q w in
     let m = kept_blanks p r fs b tail (subst (λ y. Left y r fs b tail) (sym s) l) in
     record {
-      front = m.front; bodies = fs; tail = tail; left = m.left; eats = m.eats;
+      front = m.front;
+      bodies = fs;
+      tail = tail;
+      left = m.left;
+      eats = m.eats;
       same = λ c k le. stays sub k e (place m.front fs c) (place r fs c) (m.same c) (ends_same r c l.has_stop ∙ sym (ends_same r b l.has_stop) ∙ ap ends_command (sym (ap (λ y. y.text) s ∙ l.is_text)) ∙ is)
           ∙ ap (λ y. Some (y, place r fs c)) (left_of e a (past_blanks p) q w);
     }
@@ -282,11 +291,16 @@ kept_elements sub k (suc n) e p a q r fs b tail w l = by_end (ends_command (past
         let u = ptakes_element sub k e (past_blanks p) o.first o.left m.front m.bodies b m.tail o.is_first m.left in
         let g = kept_blanks p u.front u.bodies b u.tail u.left in
         record {
-          front = g.front; bodies = u.bodies; tail = u.tail; left = g.left; eats = omega (arith, m.eats, u.eats, g.eats);
+          front = g.front;
+          bodies = u.bodies;
+          tail = u.tail;
+          left = g.left;
+          eats = omega (arith, m.eats, u.eats, g.eats);
           same = λ c. elim [
-              zero ↦ λ le. absurd (omega (arith, le, u.eats, g.eats))
+            | zero ↦ λ le. absurd (omega (arith, le, u.eats, g.eats))
             | suc j ↦ λ le. goes sub j e (place g.front u.bodies c) (place u.front u.bodies c) (g.same c) (ends_same u.front c u.left.has_stop ∙ sym (ends_same u.front b u.left.has_stop) ∙ ap ends_command (sym u.left.is_text) ∙ is)
-                ∙ ap (λ y. and_then y (elements sub j)) (u.same c) ∙ m.same c j (omega (arith, le, u.eats, g.eats)) ];
+                ∙ ap (λ y. and_then y (elements sub j)) (u.same c) ∙ m.same c j (omega (arith, le, u.eats, g.eats))
+          ];
         }
 
 pub pkeeps_elements : (sub : Text → Outcome Text Simple) → Subs sub → (e : Elements) → PKeeps (λ p. elements sub (length p.text) e p) (λ p. elements sub (length p.text) e p)

@@ -1,5 +1,5 @@
 -- Lines and bodies of here-documents stay when another text follows.
-use Rattle.std.proofs.Common.{◌≡◌, ◌∙◌, ◌≤◌, ◌+◌, ◌-◌, ℕ, zero, suc, List, [], ◌∷◌, ◌++◌, ◌⊎◌, inl, inr, refl, sym, ap, ap₂, subst, Bool, true, false, cond, if◌then◌else◌, ◌||◌, ◌&&◌, ◌==◌, not, length, arith, length-append}
+use Rattle.std.proofs.Common.{◌≡◌, ◌∙◌, ◌≤◌, ◌+◌, ℕ, zero, suc, [], ◌∷◌, ◌++◌, inl, inr, refl, sym, ap, ap₂, Bool, true, false, if◌then◌else◌, ◌||◌, ◌&&◌, ◌==◌, length, arith}
 use Rattle.std.specs.Prelude.{Option, Some, None, is_some}
 use Rattle.std.specs.Str.{bytes_eq}
 use Rattle.std.proofs.lemmas.Bool.Decides.{nat_tests}
@@ -9,9 +9,9 @@ use Rattle.ap_shparse.specs.Pieces.{expect, pieces}
 use Rattle.ap_shparse.specs.Places.{args, body, body_from, bracket, delimiter, is_delimiter, line, line_from, lone, token}
 use Rattle.ap_shparse.specs.declared.class.Class.TheVariants.{Comment, Quoted}
 use Rattle.ap_shparse.specs.declared.tree.Simple.{Simple}
-use Rattle.ap_shparse.proofs.Keeps.{Eating, Has, IsTest, Kept, KeptPast, Keeps, Takes, both_of, ends_word_same, inner, keeps_if, keeps_never, keeps_pure, keeps_takes, keeps_then, kept_less, left_of, never, right_of, takes_if_eaten, takes_then}
+use Rattle.ap_shparse.proofs.Keeps.{Eating, Has, Kept, KeptPast, Keeps, Takes, both_of, ends_word_same, inner, keeps_if, keeps_never, keeps_pure, keeps_then, left_of, never, right_of}
 use Rattle.ap_shparse.proofs.KeptRuns.{keeps_taking, kept_gap, kept_run, taking}
-use Rattle.ap_shparse.proofs.KeptPieces.{keeps_expect, keeps_pieces, longer, never_some, one_of, takes_expect, takes_pieces}
+use Rattle.ap_shparse.proofs.KeptPieces.{keeps_expect, longer, takes_pieces}
 use Rattle.ap_shparse.proofs.KeptWords.{begins_with_same, eats_args, eats_bracket}
 
 -- there is a byte
@@ -29,6 +29,7 @@ keeps_delimiter = keeps_then (expect 39) (expect 39) _ _ (keeps_expect 39)
   where
     closed : Text → Text → Outcome Text Text
     closed w v = if is_delimiter w && ends_word v then Some (w, v) else None
+
     keeps_closed : (w : Text) → Keeps (closed w) (closed w)
     keeps_closed w = keeps_if (λ v. is_delimiter w && ends_word v) (pure w) (pure w) never never (λ t b h. ap (λ x. is_delimiter w && x) (ends_word_same t b h)) (keeps_pure w) keeps_never
 
@@ -41,12 +42,16 @@ eats_either E F k j = record { past = λ x u b e h. by_first x u b (E x) refl e 
     by_first x u b None is e h =
         let m = j.past x u b e h in
         record {
-          front = m.front; spelling = m.spelling; has_stop = m.has_stop; eats = m.eats;
+          front = m.front;
+          spelling = m.spelling;
+          has_stop = m.has_stop;
+          eats = m.eats;
           same = λ c. ap (λ o. if_eaten o (λ u. Some u) (F (m.front ++ c))) (k.none m.front b c (ap E (sym m.spelling) ∙ is) m.has_stop) ∙ m.same c;
         }
     by_first x u b (Some v) is e h =
         let m = k.past x u b (is ∙ e) h in
         record { front = m.front; spelling = m.spelling; has_stop = m.has_stop; eats = m.eats; same = λ c. ap (λ o. if_eaten o (λ u. Some u) (F (m.front ++ c))) (m.same c) }
+
     by_none : (t b c : Text) (o : Option Text) → E (t ++ b) ≡ o → if_eaten o (λ u. Some u) (F (t ++ b)) ≡ None → Has t → if_eaten (E (t ++ c)) (λ u. Some u) (F (t ++ c)) ≡ None
     by_none t b c None is e h = ap (λ o. if_eaten o (λ u. Some u) (F (t ++ c))) (k.none t b c is h) ∙ j.none t b c e h
     by_none t b c (Some v) is e h = cc
@@ -74,9 +79,14 @@ takes_token sub k (c ∷ t) a r b e h = by_ender (is_among c enders) refl e
         opened [] s g l same lonely plain = absurd g
         opened (d ∷ u) s g l same lonely plain =
             let hd : c ≡ d = cc in
-            record { front = d ∷ u; spelling = s; has_stop = g; eats = l;
+            record {
+              front = d ∷ u;
+              spelling = s;
+              has_stop = g;
+              eats = l;
               same = λ v. ap (λ x. or_word sub x d (u ++ v)) (ap (λ y. is_among y enders) (sym hd) ∙ plain)
-                  ∙ ap (λ o. if_eaten o (pure tt) (and_then (pieces sub (d ∷ (u ++ v))) (λ _. pure tt))) (lonely v) ∙ same v }
+                  ∙ ap (λ o. if_eaten o (pure tt) (and_then (pieces sub (d ∷ (u ++ v))) (λ _. pure tt))) (lonely v) ∙ same v;
+            }
     by_lone (Some z) is plain e =
         let q = right_of tt a z (r ++ b) e in
         let m = eats_lone.past (c ∷ t) r b (is ∙ ap (λ y. Some y) q) h in
@@ -86,13 +96,22 @@ takes_token sub k (c ∷ t) a r b e h = by_ender (is_among c enders) refl e
         opened [] s g l same w plain = absurd g
         opened (d ∷ u) s g l same w plain =
             let hd : c ≡ d = cc in
-            record { front = d ∷ u; spelling = s; has_stop = g; eats = l;
+            record {
+              front = d ∷ u;
+              spelling = s;
+              has_stop = g;
+              eats = l;
               same = λ v. ap (λ x. or_word sub x d (u ++ v)) (ap (λ y. is_among y enders) (sym hd) ∙ plain)
-                  ∙ ap (λ o. if_eaten o (pure tt) (and_then (pieces sub (d ∷ (u ++ v))) (λ _. pure tt))) (same v) ∙ ap (λ y. Some (y, r ++ v)) w }
+                  ∙ ap (λ o. if_eaten o (pure tt) (and_then (pieces sub (d ∷ (u ++ v))) (λ _. pure tt))) (same v) ∙ ap (λ y. Some (y, r ++ v)) w;
+            }
+
     by_ender : (v : Bool) → is_among c enders ≡ v → or_word sub v c t ≡ Some (a, r ++ b) → Kept 1 (token sub) (c ∷ t) a r b
     by_ender true is e =
         record {
-          front = c ∷ r; spelling = ap (λ y. c ∷ y) (right_of tt a t (r ++ b) e); has_stop = inr h; eats = omega arith;
+          front = c ∷ r;
+          spelling = ap (λ y. c ∷ y) (right_of tt a t (r ++ b) e);
+          has_stop = inr h;
+          eats = omega arith;
           same = λ v. ap (λ x. or_word sub x c (r ++ v)) is ∙ ap (λ y. Some (y, r ++ v)) (left_of tt a t (r ++ b) e);
         }
     by_ender false is e = by_lone (lone (c ∷ t)) refl is e
@@ -146,10 +165,14 @@ kept_line sub k (suc n) x a r b e g = by_newline (begins_with 10 (gap x)) refl e
         let h = has_newline r b g (ap (begins_with 10) (sym q) ∙ is) in
         let m = kept_gap x r b q h in
         record {
-          front = m.front; spelling = m.spelling; has_stop = m.has_stop; eats = m.eats;
+          front = m.front;
+          spelling = m.spelling;
+          has_stop = m.has_stop;
+          eats = m.eats;
           same = λ c. elim [
-              zero ↦ λ le. absurd (not_zero r m.front g m.eats le)
-            | suc j ↦ λ le. line_here sub j (m.front ++ c) (r ++ c) (m.same c) (begins_with_same 10 r c h ∙ sym (begins_with_same 10 r b h) ∙ ap (begins_with 10) (sym q) ∙ is) ];
+            | zero ↦ λ le. absurd (not_zero r m.front g m.eats le)
+            | suc j ↦ λ le. line_here sub j (m.front ++ c) (r ++ c) (m.same c) (begins_with_same 10 r c h ∙ sym (begins_with_same 10 r b h) ∙ ap (begins_with 10) (sym q) ∙ is)
+          ];
         }
     by_newline false is e rec =
         let w = both_of (token sub (gap x)) (λ _. line_from sub n) (a, r ++ b) e in
@@ -157,11 +180,15 @@ kept_line sub k (suc n) x a r b e g = by_newline (begins_with 10 (gap x)) refl e
         let u = takes_token sub k (gap x) w.first l.front b (w.is_first ∙ ap (λ y. Some (w.first, y)) l.spelling) l.has_stop in
         let m = kept_gap x u.front b u.spelling u.has_stop in
         record {
-          front = m.front; spelling = m.spelling; has_stop = m.has_stop; eats = omega (arith, m.eats, u.eats, l.eats);
+          front = m.front;
+          spelling = m.spelling;
+          has_stop = m.has_stop;
+          eats = omega (arith, m.eats, u.eats, l.eats);
           same = λ c. elim [
-              zero ↦ λ le. absurd (omega (arith, m.eats, u.eats, le))
+            | zero ↦ λ le. absurd (omega (arith, m.eats, u.eats, le))
             | suc j ↦ λ le. line_on sub j (m.front ++ c) (u.front ++ c) (m.same c) (begins_with_same 10 u.front c u.has_stop ∙ sym (begins_with_same 10 u.front b u.has_stop) ∙ ap (begins_with 10) (sym u.spelling) ∙ is)
-                ∙ ap (λ o. and_then o (λ _. line_from sub j)) (u.same c) ∙ l.same c j (omega (arith, m.eats, u.eats, l.eats, le)) ];
+                ∙ ap (λ o. and_then o (λ _. line_from sub j)) (u.same c) ∙ l.same c j (omega (arith, m.eats, u.eats, l.eats, le))
+          ];
         }
 
 pub keeps_line : (sub : Text → Outcome Text Simple) → Keeps sub sub → (x : Text) (a : Unit {0}) (r b : Text) → line sub x ≡ Some (a, r ++ b) → NotNil r → Kept 0 (line sub) x tt r b
@@ -211,23 +238,31 @@ kept_body d (suc n) f x a (y ∷ r) b e g = by_closing (bytes_eq (run Comment x)
     by_closing true is e rec =
         let m = kept_run Comment x y r b (right_of f a (after Comment x) (y ∷ (r ++ b)) e) in
         record {
-          front = m.front; spelling = m.spelling; eats = omega (arith, m.eats); some = omega (arith, m.eats);
+          front = m.front;
+          spelling = m.spelling;
+          eats = omega (arith, m.eats);
+          some = omega (arith, m.eats);
           same = λ c. elim [
-              zero ↦ λ le. absurd (omega (arith, m.eats, le))
+            | zero ↦ λ le. absurd (omega (arith, m.eats, le))
             | suc j ↦ λ le. body_step d j f (m.front ++ c) ∙ ap (lines_on d j f (m.front ++ c)) (ap (λ z. bytes_eq z d) (m.run_same c) ∙ is)
-                ∙ ap₂ (λ p q. Some (p, q)) (left_of f a (after Comment x) (y ∷ (r ++ b)) e) (m.after_same c) ];
+                ∙ ap₂ (λ p q. Some (p, q)) (left_of f a (after Comment x) (y ∷ (r ++ b)) e) (m.after_same c)
+          ];
         }
     by_closing false is e rec =
         let w = both_of (expect 10 (after Comment x)) (λ _. body_from d n (f ++ run Comment x ++ 10 ∷ [])) (a, y ∷ (r ++ b)) e in
         let l = rec (f ++ run Comment x ++ 10 ∷ []) w.left w.is_second in
         let m = kept_run Comment x 10 l.front b (expect_newline (after Comment x) w.left w.first w.is_first ∙ ap (λ z. 10 ∷ z) l.spelling) in
         record {
-          front = m.front; spelling = m.spelling; eats = omega (arith, m.eats, l.eats); some = omega (arith, m.eats);
+          front = m.front;
+          spelling = m.spelling;
+          eats = omega (arith, m.eats, l.eats);
+          some = omega (arith, m.eats);
           same = λ c. elim [
-              zero ↦ λ le. absurd (omega (arith, m.eats, le))
+            | zero ↦ λ le. absurd (omega (arith, m.eats, le))
             | suc j ↦ λ le. body_step d j f (m.front ++ c) ∙ ap (lines_on d j f (m.front ++ c)) (ap (λ z. bytes_eq z d) (m.run_same c) ∙ is)
                 ∙ ap (λ z. and_then (expect 10 z) (λ _. body_from d j (f ++ run Comment (m.front ++ c) ++ 10 ∷ []))) (m.after_same c)
-                ∙ ap (λ z. body_from d j (f ++ z ++ 10 ∷ []) (l.front ++ c)) (m.run_same c) ∙ l.same c j (omega (arith, m.eats, le)) ];
+                ∙ ap (λ z. body_from d j (f ++ z ++ 10 ∷ []) (l.front ++ c)) (m.run_same c) ∙ l.same c j (omega (arith, m.eats, le))
+          ];
         }
 
 pub record KeptWhole (d x a r b : Text) : Type 0 where

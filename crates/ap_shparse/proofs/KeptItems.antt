@@ -1,22 +1,19 @@
 -- Items and lists stay when another text follows.
-use Rattle.std.proofs.Common.{◌≡◌, ◌∙◌, ◌≤◌, ◌<◌, ◌+◌, ◌-◌, ℕ, zero, suc, List, [], ◌∷◌, ◌++◌, ◌⊎◌, inl, inr, refl, sym, ap, ap₂, subst, Bool, true, false, cond, if◌then◌else◌, ◌||◌, ◌&&◌, ◌==◌, not, length, arith, length-append}
-use Rattle.std.specs.Prelude.{Option, Some, None, is_some, option_map, codes}
-use Rattle.ap_shparse.specs.Bytes.{Text, after, gap, past, past_byte, run}
+use Rattle.std.proofs.Common.{◌≡◌, ◌∙◌, ◌≤◌, ◌<◌, ℕ, zero, suc, List, [], ◌∷◌, ◌++◌, ◌⊎◌, inl, inr, refl, sym, ap, ap₂, subst, Bool, true, false, if◌then◌else◌, ◌||◌, ◌==◌, length, arith}
+use Rattle.std.specs.Prelude.{Option, Some, None, option_map, codes}
+use Rattle.ap_shparse.specs.Bytes.{Text, past, past_byte}
 use Rattle.ap_shparse.specs.Reads.{Outcome, and_then, eaten, if_eaten, pure}
-use Rattle.ap_shparse.specs.Places.{Place, at_text, lift, newlines, next_line, past_gap, past_newline}
-use Rattle.ap_shparse.specs.Commands.{is_nil, past_blanks, sees, simple, substitution}
+use Rattle.ap_shparse.specs.Places.{Place, at_text, newlines, past_gap, past_newline}
+use Rattle.ap_shparse.specs.Commands.{is_nil, past_blanks, simple, substitution}
 use Rattle.ap_shparse.specs.Lists.{Lists, chain, choice, closes, command, ended, item_of, items, items_from, join, joined, joiner, keyword, list, next_item, others, others_by, otherwise, past_end, past_twice, simple_member}
-use Rattle.ap_shparse.specs.declared.elements.Called.{Called}
-use Rattle.ap_shparse.specs.declared.item.Item.{Item}
-use Rattle.ap_shparse.specs.declared.item.Member.{Member}
 use Rattle.ap_shparse.specs.declared.tree.Chain.{Chain}
 use Rattle.ap_shparse.specs.declared.tree.Joined.{Joined}
 use Rattle.ap_shparse.specs.declared.tree.Node.TheVariants as node
-use Rattle.ap_shparse.proofs.Keeps.{Eating, Has, IsTest, is_same, is_stop, keeps_pure, kept_never, never, takes_if_eaten, Kept, KeptPast, KeepsAt, Keeps, Lacks, Takes, both_of, eats_byte, eats_word, inner, keeps_takes, kept_eaten, left_of, right_of}
+use Rattle.ap_shparse.proofs.Keeps.{Eating, Has, IsTest, is_same, is_stop, keeps_pure, kept_never, never, takes_if_eaten, KeptPast, Lacks, Takes, both_of, eats_byte, eats_word, inner, kept_eaten, left_of, right_of}
 use Rattle.ap_shparse.proofs.KeptRuns.{kept_gap}
-use Rattle.ap_shparse.proofs.KeptPieces.{longer, never_some}
+use Rattle.ap_shparse.proofs.KeptPieces.{longer}
 use Rattle.ap_shparse.proofs.KeptHere.{past_semi}
-use Rattle.ap_shparse.proofs.KeptPlaces.{Left, PKeeps, PKeepsAt, PKept, PTakes, Some_, pkeeps_pure, pkeeps_takes, pkeeps_then, pkept_if, pkept_if_eaten, pkept_lift, pkept_never, pkept_then, place, pnever, ptakes_then, pthen_takes}
+use Rattle.ap_shparse.proofs.KeptPlaces.{Left, PKeeps, PKept, PTakes, Some_, pkeeps_pure, pkeeps_takes, pkeeps_then, pkept_if, pkept_if_eaten, pkept_lift, pkept_never, place, pnever, ptakes_then, pthen_takes}
 use Rattle.ap_shparse.proofs.KeptLines.{Fits, PKeptPast, at_newline, kept_all_lines, fits, has_some, kept_newline, pkept_newlines}
 use Rattle.ap_shparse.proofs.KeptCommands.{keeps_substitution, kept_blanks, pkeeps_simple, sees_same}
 
@@ -42,7 +39,7 @@ pkeeps_choice below k =
     pkeeps_then below below _ _ k (λ test. pkeeps_then (keyword (codes "then")) (keyword (codes "then")) _ _ (pkeeps_keyword 116 (104 ∷ 101 ∷ 110 ∷ []) (refl, (refl, (refl, (refl, tt)))))
     (λ _. pkeeps_then below below _ _ k (λ yes_list. pkeeps_then (otherwise below) (otherwise below) _ _ (pkeeps_otherwise below k)
     (λ no_list. pkeeps_then (keyword (codes "fi")) (keyword (codes "fi")) (λ _. pure (record { node = node.If test yes_list no_list; stops = false })) (λ _. pure (record { node = node.If test yes_list no_list; stops = false }))
-        (pkeeps_keyword 102 (105 ∷ []) (refl, (refl, tt))) (λ _. pkeeps_pure (record { node = node.If test yes_list no_list; stops = false }))))))
+    (pkeeps_keyword 102 (105 ∷ []) (refl, (refl, tt))) (λ _. pkeeps_pure (record { node = node.If test yes_list no_list; stops = false }))))))
 
 pkeeps_command : (below : Lists) → PKeeps below below → PKeeps (command below) (command below)
 unfolding command
@@ -69,10 +66,12 @@ eats_twice k lacks = record { past = λ x u b e h. by_first x u b (past_byte k x
         let m = (eats_byte k).past y u b e h in
         let n = (eats_byte k).past x m.front b (is ∙ ap (λ z. Some z) m.spelling) m.has_stop in
         record { front = n.front; spelling = n.spelling; has_stop = n.has_stop; eats = omega (arith, n.eats, m.eats); same = λ c. ap (twice_by k) (n.same c) ∙ m.same c }
+
     by_byte : (v : Bool) (d : ℕ) (t b c : Text) → (d == k) ≡ v → (is_stop d ≡ true) ⊎ Has t → twice_by k (if v then Some (t ++ b) else None) ≡ None → twice_by k (if d == k then Some (t ++ c) else None) ≡ None
     by_byte true d t b c is (inl s) e = absurd (true_no (sym s ∙ is_same d k is lacks))
     by_byte true d t b c is (inr g) e = ap (λ v. twice_by k (if v then Some (t ++ c) else None)) is ∙ (eats_byte k).none t b c e g
     by_byte false d t b c is g e = ap (λ v. twice_by k (if v then Some (t ++ c) else None)) is
+
     nothing : (t b c : Text) → past_twice k (t ++ b) ≡ None → Has t → past_twice k (t ++ c) ≡ None
     nothing [] b c e h = absurd h
     nothing (d ∷ t) b c e h = by_byte (d == k) d t b c refl h e
@@ -93,6 +92,7 @@ no_joiner t b c e h = by_first (past_twice 124 (t ++ b)) refl e
     by_second : (o : Option Text) → past_twice 38 (t ++ b) ≡ o → or_and o ≡ None → or_and (past_twice 38 (t ++ c)) ≡ None
     by_second None is e = ap or_and ((eats_twice 38 refl).none t b c is h)
     by_second (Some u) is e = cc
+
     by_first : (o : Option Text) → past_twice 124 (t ++ b) ≡ o → or_or o (or_and (past_twice 38 (t ++ b))) ≡ None → joiner (t ++ c) ≡ None
     by_first None is e = ap (λ o. or_or o (or_and (past_twice 38 (t ++ c)))) ((eats_twice 124 refl).none t b c is h) ∙ by_second (past_twice 38 (t ++ b)) refl e
     by_first (Some u) is e = cc
@@ -129,10 +129,15 @@ kept_others below k (suc n) found p a q r fs b tail e l = by_joiner (joiner (pas
         let nj = λ (c : Text). no_joiner r b c (ap joiner (sym (ap (λ y. y.text) s ∙ l.is_text)) ∙ is) l.has_stop in
         let some = some_bytes r l.has_stop in
         record {
-          front = m.front; bodies = fs; tail = tail; left = m.left; eats = m.eats;
+          front = m.front;
+          bodies = fs;
+          tail = tail;
+          left = m.left;
+          eats = m.eats;
           same = λ c. elim [
-              zero ↦ λ le. absurd (omega (arith, le, m.eats, some))
-            | suc j ↦ λ le. others_step below j found (place m.front fs c) (place r fs c) None (m.same c) (nj c) ∙ ap (λ y. Some (y, place r fs c)) (left_of found a (past_blanks p) q e) ];
+            | zero ↦ λ le. absurd (omega (arith, le, m.eats, some))
+            | suc j ↦ λ le. others_step below j found (place m.front fs c) (place r fs c) None (m.same c) (nj c) ∙ ap (λ y. Some (y, place r fs c)) (left_of found a (past_blanks p) q e)
+          ];
         }
     by_joiner (Some o) is e rec =
         let w = both_of (join below found o.0 (at_text (past_blanks p) o.1)) (others below n) (a, q) e in
@@ -141,11 +146,16 @@ kept_others below k (suc n) found p a q r fs b tail e l = by_joiner (joiner (pas
         let v = takes_joiner (past_blanks p).text o.0 u.front b (is ∙ ap (λ y. Some (o.0, y)) u.left.is_text) u.left.has_stop in
         let g = kept_blanks p v.front u.bodies b u.tail (record { is_text = v.spelling; is_bodies = u.left.is_bodies; as_long = u.left.as_long; has_stop = v.has_stop; some = u.left.some }) in
         record {
-          front = g.front; bodies = u.bodies; tail = u.tail; left = g.left; eats = omega (arith, m.eats, u.eats, v.eats, g.eats);
+          front = g.front;
+          bodies = u.bodies;
+          tail = u.tail;
+          left = g.left;
+          eats = omega (arith, m.eats, u.eats, v.eats, g.eats);
           same = λ c. elim [
-              zero ↦ λ le. absurd (omega (arith, le, v.eats, g.eats))
+            | zero ↦ λ le. absurd (omega (arith, le, v.eats, g.eats))
             | suc j ↦ λ le. others_step below j found (place g.front u.bodies c) (place v.front u.bodies c) (Some (o.0, u.front ++ c)) (g.same c) (v.same c)
-                ∙ ap (λ y. and_then y (others below j)) (u.same c) ∙ m.same c j (omega (arith, le, u.eats, v.eats, g.eats)) ];
+                ∙ ap (λ y. and_then y (others below j)) (u.same c) ∙ m.same c j (omega (arith, le, u.eats, v.eats, g.eats))
+          ];
         }
 
 pub pkeeps_chain : (below : Lists) → PKeeps below below → PKeeps (chain below) (chain below)
@@ -157,7 +167,11 @@ pkeeps_chain below k p a q r fs b tail e l =
     let m = kept_others below k (length p.text) [] w.left v.first v.left r fs b tail v.is_first (subst (λ y. Left y r fs b tail) (sym s) l) in
     let u = pkeeps_command below k p w.first w.left m.front m.bodies b m.tail w.is_first m.left in
     record {
-      front = u.front; bodies = u.bodies; tail = u.tail; left = u.left; eats = omega (arith, u.eats, m.eats);
+      front = u.front;
+      bodies = u.bodies;
+      tail = u.tail;
+      left = u.left;
+      eats = omega (arith, u.eats, m.eats);
       same = λ c. ap (λ o. and_then o (λ x y. and_then (others below (length (u.front ++ c)) [] y) (λ rest. pure (item_of x rest)))) (u.same c)
           ∙ ap (λ o. and_then o (λ rest. pure (item_of w.first rest))) (m.same c (length (u.front ++ c)) (omega (arith, longer u.front c, u.eats)))
           ∙ ap (λ y. Some (y, place r fs c)) (left_of (item_of w.first v.first) a v.left q v.is_second);
@@ -186,15 +200,22 @@ kept_end p q r fs b tail e l f = by_semi (past_byte 59 p.text) refl e
     by_newline None g is e =
         let m = kept_newline p q r b e l.is_text (f e) in
         record {
-          front = m.front; bodies = m.bodies; tail = m.tail; left = m.left; eats = m.eats;
+          front = m.front;
+          bodies = m.bodies;
+          tail = m.tail;
+          left = m.left;
+          eats = m.eats;
           same = λ c. ap (or_newline (place m.front m.bodies c)) ((eats_byte 59).none m.front b c (ap (past_byte 59) (sym m.left.is_text) ∙ is) m.left.has_stop) ∙ m.same c;
         }
+
     by_semi : (o : Option Text) → past_byte 59 p.text ≡ o → or_newline p o ≡ Some q → PKeptPast 1 past_end p r fs b
     by_semi None is e = by_newline fs refl is e
     by_semi (Some t) is e =
         let s = inner (at_text p t) q e in
         record {
-          front = 59 ∷ r; bodies = fs; tail = tail;
+          front = 59 ∷ r;
+          bodies = fs;
+          tail = tail;
           left = record { is_text = past_semi p.text t is ∙ ap (λ y. 59 ∷ y) (ap (λ y. y.text) s ∙ l.is_text); is_bodies = ap (λ y. y.bodies) s ∙ l.is_bodies; as_long = l.as_long; has_stop = inl refl; some = l.some };
           eats = omega arith;
           same = λ c. refl;
@@ -209,10 +230,12 @@ ptakes_ended p a q r fs b tail e l = by_end (past_end (past_gap p)) refl e
         let w = right_of tt a s q e in
         let d = subst (λ y. Left y r fs b tail) (sym w) l in
         let m = kept_end (past_gap p) s r fs b tail is (record { is_text = d.is_text; is_bodies = d.is_bodies; as_long = d.as_long; some = d.some })
-                (λ n. let a = at_newline (past_gap p) s n in fits (past_gap p).bodies a.rest s.text b (ap (λ y. y.text) a.is_next) (inl (subst (λ y. length b < length y) (sym d.is_text) (has_some r b d.has_stop)))) in
+        (λ n. let a = at_newline (past_gap p) s n in fits (past_gap p).bodies a.rest s.text b (ap (λ y. y.text) a.is_next) (inl (subst (λ y. length b < length y) (sym d.is_text) (has_some r b d.has_stop)))) in
         let g = kept_gap p.text m.front b m.left.is_text m.left.has_stop in
         record {
-          front = g.front; bodies = m.bodies; tail = m.tail;
+          front = g.front;
+          bodies = m.bodies;
+          tail = m.tail;
           left = record { is_text = g.spelling; is_bodies = m.left.is_bodies; as_long = m.left.as_long; has_stop = g.has_stop; some = m.left.some };
           eats = omega (arith, g.eats, m.eats);
           same = λ c. ap (λ y. eaten (past_end (at_text (place g.front m.bodies c) y))) (g.same c) ∙ ap eaten (m.same c) ∙ ap (λ y. Some (y, place r fs c)) (left_of tt a s q e);
@@ -259,11 +282,16 @@ kept_items below k (suc n) found p a q r fs b tail e l = by_lines (newlines p) r
         let m = kept_all_lines p s r fs b tail g d in
         let some = some_bytes r l.has_stop in
         record {
-          front = m.front; bodies = m.bodies; tail = m.tail; left = m.left; eats = omega (arith, m.eats);
+          front = m.front;
+          bodies = m.bodies;
+          tail = m.tail;
+          left = m.left;
+          eats = omega (arith, m.eats);
           same = λ c. elim [
-              zero ↦ λ le. absurd (omega (arith, le, m.eats, some))
+            | zero ↦ λ le. absurd (omega (arith, le, m.eats, some))
             | suc j ↦ λ le. items_step below j found (place m.front m.bodies c) (place r fs c) true (m.same c) (closes_same r c l.has_stop ∙ sym (closes_same r b l.has_stop) ∙ ap closes (sym d.is_text) ∙ is)
-                ∙ ap (λ y. Some (y, place r fs c)) (left_of found a s q e) ];
+                ∙ ap (λ y. Some (y, place r fs c)) (left_of found a s q e)
+          ];
         }
     by_closing s g false is e rec =
         let w = both_of (next_item below found s) (items_from below n) (a, q) e in
@@ -271,12 +299,18 @@ kept_items below k (suc n) found p a q r fs b tail e l = by_lines (newlines p) r
         let u = ptakes_next_item below k found s w.first w.left m.front m.bodies b m.tail w.is_first m.left in
         let v = kept_all_lines p s u.front u.bodies b u.tail g u.left in
         record {
-          front = v.front; bodies = v.bodies; tail = v.tail; left = v.left; eats = omega (arith, m.eats, u.eats, v.eats);
+          front = v.front;
+          bodies = v.bodies;
+          tail = v.tail;
+          left = v.left;
+          eats = omega (arith, m.eats, u.eats, v.eats);
           same = λ c. elim [
-              zero ↦ λ le. absurd (omega (arith, le, u.eats, v.eats))
+            | zero ↦ λ le. absurd (omega (arith, le, u.eats, v.eats))
             | suc j ↦ λ le. items_step below j found (place v.front v.bodies c) (place u.front u.bodies c) false (v.same c) (closes_same u.front c u.left.has_stop ∙ sym (closes_same u.front b u.left.has_stop) ∙ ap closes (sym u.left.is_text) ∙ is)
-                ∙ ap (λ y. and_then y (items_from below j)) (u.same c) ∙ m.same c j (omega (arith, le, u.eats, v.eats)) ];
+                ∙ ap (λ y. and_then y (items_from below j)) (u.same c) ∙ m.same c j (omega (arith, le, u.eats, v.eats))
+          ];
         }
+
     by_lines : (o : Option Place) → newlines p ≡ o → items_on below n found o ≡ Some (a, q)
         → ((f : List Chain) (y : Place) → items_from below n f y ≡ Some (a, q) → KeptList below f y a r fs b) → KeptList below found p a r fs b
     by_lines None is e rec = cc

@@ -1,12 +1,12 @@
 -- Newlines stay when another text follows, and the places behind the bodies below them.
-use Rattle.std.proofs.Common.{◌≡◌, ◌∙◌, ◌≤◌, ◌<◌, ◌+◌, ◌-◌, ℕ, zero, suc, List, [], ◌∷◌, ◌++◌, ◌⊎◌, inl, inr, refl, sym, ap, ap₂, subst, Bool, true, false, cond, if◌then◌else◌, length, arith, length-append, take, drop, append_assoc, length-drop}
+use Rattle.std.proofs.Common.{◌≡◌, ◌∙◌, ◌≤◌, ◌<◌, ◌+◌, ◌-◌, ℕ, zero, suc, [], ◌∷◌, ◌++◌, ◌⊎◌, inl, inr, refl, sym, ap, ap₂, subst, if◌then◌else◌, length, arith, length-append, take, drop, append_assoc, length-drop}
 use Rattle.std.specs.Prelude.{Option, Some, None, is_some, option_map}
 use Rattle.std.proofs.lemmas.List.{take-append-drop, length-take-le}
 use Rattle.std.proofs.Math.Seq.{drop-append_seam}
-use Rattle.ap_shparse.specs.Bytes.{Text, gap, past_byte}
+use Rattle.ap_shparse.specs.Bytes.{Text, past_byte}
 use Rattle.ap_shparse.specs.Reads.{Outcome, eaten, if_eaten}
-use Rattle.ap_shparse.specs.Places.{Place, at_text, behind, last, lift, newlines, newlines_by, newlines_from, next_line, no_newline, past_gap, past_newline}
-use Rattle.ap_shparse.proofs.Keeps.{Has, Keeps, eats_byte, inner, left_of, right_of}
+use Rattle.ap_shparse.specs.Places.{Place, at_text, behind, newlines, newlines_by, newlines_from, next_line, no_newline, past_gap, past_newline}
+use Rattle.ap_shparse.proofs.Keeps.{Has, eats_byte, inner}
 use Rattle.ap_shparse.proofs.KeptRuns.{kept_gap}
 use Rattle.ap_shparse.proofs.KeptPieces.{longer, never_some}
 use Rattle.ap_shparse.proofs.KeptHere.{NotNil, expect_newline}
@@ -58,7 +58,7 @@ kept_behind (Some z) t r b e f =
       some = longer_than_none (take m z) (omega (arith, lm, f));
       same = λ c. dropped (length (take k t ++ (r ++ c)) - (length (take m z ++ c) - 1)) (take k t) (r ++ c)
           (ap₂ (λ x y. x - (y - 1)) (length-append (take k t) (r ++ c) ∙ ap₂ (λ x y. x + y) lk (length-append r c)) (length-append (take m z) c ∙ ap (λ x. x + length c) lm)
-           ∙ counted (length t) (length z) (length r) (length b) (length c) n k m refl refl refl f le ∙ sym lk);
+          ∙ counted (length t) (length z) (length r) (length b) (length c) n k m refl refl refl f le ∙ sym lk);
     }
 
 -- where something is left behind, the bodies are long enough
@@ -106,7 +106,9 @@ kept_newline p q r b e is f =
     let a = at_newline p q e in
     let m = kept_behind p.bodies a.rest r b (ap (λ y. y.text) a.is_next ∙ is) f in
     record {
-      front = 10 ∷ (m.over ++ r); bodies = m.bodies; tail = m.tail;
+      front = 10 ∷ (m.over ++ r);
+      bodies = m.bodies;
+      tail = m.tail;
       left = record { is_text = a.is_text ∙ ap (λ y. 10 ∷ y) (m.is_text ∙ sym (append_assoc m.over r b)); is_bodies = m.is_bodies; as_long = m.as_long; has_stop = inl refl; some = m.some };
       eats = omega (arith, length-append m.over r);
       same = λ c. ap (λ y. Some (lined y)) (ap (behind (option_map (λ z. z ++ c) m.bodies)) (append_assoc m.over r c) ∙ m.same c);
@@ -145,7 +147,9 @@ at_once : (n : ℕ) (p q : Place) (r : Text) (fs : Option Text) (b tail : Text) 
 at_once n p q r fs b tail g e l =
     let m = kept_gap p.text r b (ap (λ y. y.text) g ∙ l.is_text) l.has_stop in
     record {
-      front = m.front; bodies = fs; tail = tail;
+      front = m.front;
+      bodies = fs;
+      tail = tail;
       left = record { is_text = m.spelling; is_bodies = ap (λ y. y.bodies) g ∙ l.is_bodies; as_long = l.as_long; has_stop = m.has_stop; some = l.some };
       eats = m.eats;
       same = λ c k le. stands k (place m.front fs c) (place r fs c) (ap (λ y. at_text (place m.front fs c) y) (m.same c)) (no_line r fs b c q l.is_text e l.has_stop);
@@ -176,16 +180,19 @@ kept_lines (suc n) p q r fs b tail e l = by_newline (past_newline (past_gap p)) 
             no_bodies e = cc
         by_bodies front None tail k le same =
             let f = fits (past_gap p).bodies (at_newline (past_gap p) s is).rest s.text b (ap (λ y. y.text) (at_newline (past_gap p) s is).is_next)
-                    (inl (subst (λ y. length b < length y) (sym k.is_text) (has_some front b k.has_stop))) in
+            (inl (subst (λ y. length b < length y) (sym k.is_text) (has_some front b k.has_stop))) in
             let m = kept_newline (past_gap p) s front b is k.is_text f in
             let g = kept_gap p.text m.front b m.left.is_text m.left.has_stop in
             record {
-              front = g.front; bodies = m.bodies; tail = m.tail;
+              front = g.front;
+              bodies = m.bodies;
+              tail = m.tail;
               left = record { is_text = g.spelling; is_bodies = m.left.is_bodies; as_long = m.left.as_long; has_stop = g.has_stop; some = m.left.some };
               eats = omega (arith, g.eats, m.eats, le);
               same = λ c. elim [
-                  zero ↦ λ j. absurd (omega (arith, g.eats, m.eats, j))
-                | suc i ↦ λ j. goes i (place g.front m.bodies c) (place m.front m.bodies c) (place front None c) (ap (λ y. at_text (place g.front m.bodies c) y) (g.same c)) (m.same c) ∙ same c i (omega (arith, g.eats, m.eats, j)) ];
+                | zero ↦ λ j. absurd (omega (arith, g.eats, m.eats, j))
+                | suc i ↦ λ j. goes i (place g.front m.bodies c) (place m.front m.bodies c) (place front None c) (ap (λ y. at_text (place g.front m.bodies c) y) (g.same c)) (m.same c) ∙ same c i (omega (arith, g.eats, m.eats, j))
+              ];
             }
 
 pub kept_all_lines : (p q : Place) (r : Text) (fs : Option Text) (b tail : Text) → newlines p ≡ Some q → Left q r fs b tail → PKeptPast 0 newlines p r fs b
@@ -204,6 +211,10 @@ pkept_newlines n f f' k p a q r fs b tail e l = by_lines (newlines p) refl e
         let m = k s a q r fs b tail e l in
         let w = kept_all_lines p s m.front m.bodies b m.tail is m.left in
         record {
-          front = w.front; bodies = w.bodies; tail = w.tail; left = w.left; eats = omega (arith, w.eats, m.eats);
+          front = w.front;
+          bodies = w.bodies;
+          tail = w.tail;
+          left = w.left;
+          eats = omega (arith, w.eats, m.eats);
           same = λ c. ap (λ o. if_eaten o f' None) (w.same c) ∙ m.same c;
         }

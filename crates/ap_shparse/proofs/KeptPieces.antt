@@ -1,12 +1,11 @@
 -- The pieces of a word stay when another text follows.
-use Rattle.std.proofs.Common.{◌≡◌, ◌∙◌, ◌≤◌, ◌+◌, ℕ, zero, suc, List, [], ◌∷◌, ◌++◌, ◌⊎◌, inl, inr, refl, sym, ap, ap₂, subst, Bool, true, false, cond, if◌then◌else◌, ◌||◌, ◌&&◌, ◌==◌, not, length, arith, length-append}
-use Rattle.std.specs.Prelude.{Option, Some, None, is_some}
-use Rattle.ap_shparse.specs.Bytes.{Text, after, ends_word, is_among, is_plain, past_byte, run}
-use Rattle.ap_shparse.specs.Reads.{Outcome, and_then, eaten, if_eaten, pure}
+use Rattle.std.proofs.Common.{◌≡◌, ◌∙◌, ◌≤◌, ℕ, zero, suc, [], ◌∷◌, ◌++◌, inr, refl, sym, ap, ap₂, subst, Bool, true, false, if◌then◌else◌, ◌||◌, ◌&&◌, ◌==◌, not, length, arith, length-append}
+use Rattle.std.specs.Prelude.{Option, Some, None}
+use Rattle.ap_shparse.specs.Bytes.{Text, ends_word, is_among, is_plain, past_byte}
+use Rattle.ap_shparse.specs.Reads.{Outcome, and_then, pure}
 use Rattle.ap_shparse.specs.Pieces.{begins_name, braced, dollar, ends, escapable, escaped, expect, fallback, inside, name, none_found, other, output, outside, pieces, plain, quoted, single, unit, units, variable, with_bytes, with_part}
 use Rattle.ap_shparse.specs.declared.class.Class.TheVariants.{Quoted, Name, Fallback}
 use Rattle.ap_shparse.specs.declared.found.Found.{Found}
-use Rattle.ap_shparse.specs.declared.tree.Part.{Part}
 use Rattle.ap_shparse.specs.declared.tree.Part.TheVariants as part
 use Rattle.ap_shparse.specs.declared.tree.Simple.{Simple}
 use Rattle.ap_shparse.proofs.Keeps.{Has, IsTest, Kept, Keeps, eats_byte, ends_word_same, both_of, kept_eaten, kept_if, Takes, keeps_takes, takes_if_eaten, keeps_if, keeps_if_eaten, keeps_never, keeps_pure, keeps_then, left_of, never, right_of}
@@ -80,7 +79,10 @@ takes_byte P g q is none (c ∷ t) a r b e h = by_test (q c) refl (sym (is c t) 
     by_test true s e =
         let m = sym (ap (λ v. one_of v (g c) t) s) ∙ e in
         record {
-          front = c ∷ r; spelling = ap (λ y. c ∷ y) (right_of (g c) a t (r ++ b) m); has_stop = inr h; eats = omega arith;
+          front = c ∷ r;
+          spelling = ap (λ y. c ∷ y) (right_of (g c) a t (r ++ b) m);
+          has_stop = inr h;
+          eats = omega arith;
           same = λ d. is c (r ++ d) ∙ ap (λ v. one_of v (g c) (r ++ d)) s ∙ ap (λ y. Some (y, r ++ d)) (left_of (g c) a t (r ++ b) m);
         }
     by_test false s e = absurd (never_some (sym (ap (λ v. one_of v (g c) t) s) ∙ e))
@@ -112,16 +114,23 @@ keeps_escaped f (c ∷ t) a r b e h = by_test (c == 10) (is_among c escapable) r
         let hd : c ≡ d = cc in
         let tl : t ≡ u ++ b = cc in
         record {
-          front = c ∷ u; spelling = ap (λ y. c ∷ y) tl; has_stop = subst (λ z. Has (z ∷ u)) (sym hd) h; eats = omega arith;
+          front = c ∷ u;
+          spelling = ap (λ y. c ∷ y) tl;
+          has_stop = subst (λ z. Has (z ∷ u)) (sym hd) h;
+          eats = omega arith;
           same = λ v. ap₂ (λ x y. by_escape x y f c (u ++ v)) s m ∙ ap₂ (λ x y. Some (x, y ∷ (u ++ v))) w hd;
         }
+
     by_test : (x y : Bool) → (c == 10) ≡ x → is_among c escapable ≡ y → by_escape x y f c t ≡ Some (a, r ++ b) → Kept 0 (escaped f) (c ∷ t) a r b
     by_test true y s m e = absurd (never_some e)
     by_test false true s m e =
         let w = left_of (with_bytes f (c ∷ [])) a t (r ++ b) e in
         let q = right_of (with_bytes f (c ∷ [])) a t (r ++ b) e in
         record {
-          front = c ∷ r; spelling = ap (λ y. c ∷ y) q; has_stop = inr h; eats = omega arith;
+          front = c ∷ r;
+          spelling = ap (λ y. c ∷ y) q;
+          has_stop = inr h;
+          eats = omega arith;
           same = λ v. ap₂ (λ x y. by_escape x y f c (r ++ v)) s m ∙ ap (λ x. Some (x, r ++ v)) w;
         }
     by_test false false s m e =
@@ -133,7 +142,7 @@ takes_outside sub k f =
     takes_if_eaten (past_byte 39) (single f) (single f) _ _ (eats_byte 39) (keeps_single f)
     (takes_if_eaten (past_byte 34) (pure (record f { inside = true })) (pure (record f { inside = true })) _ _ (eats_byte 34) (keeps_pure (record f { inside = true }))
     (takes_if_eaten (past_byte 36) _ _ (plain f) (plain f) (eats_byte 36)
-        (keeps_then (dollar sub false) (dollar sub false) (λ p. pure (with_part (record f { dollar = true }) p)) (λ p. pure (with_part (record f { dollar = true }) p)) (keeps_dollar sub k false) (λ p. keeps_pure (with_part (record f { dollar = true }) p)))
+    (keeps_then (dollar sub false) (dollar sub false) (λ p. pure (with_part (record f { dollar = true }) p)) (λ p. pure (with_part (record f { dollar = true }) p)) (keeps_dollar sub k false) (λ p. keeps_pure (with_part (record f { dollar = true }) p)))
     (takes_plain f)))
 
 takes_inside : (sub : Text → Outcome Text Simple) → Keeps sub sub → (f : Found) → Takes (inside sub f) (inside sub f)
@@ -142,7 +151,7 @@ takes_inside sub k f =
     takes_if_eaten (past_byte 34) (pure (record f { inside = false })) (pure (record f { inside = false })) _ _ (eats_byte 34) (keeps_pure (record f { inside = false }))
     (takes_if_eaten (past_byte 92) (escaped f) (escaped f) _ _ (eats_byte 92) (keeps_escaped f)
     (takes_if_eaten (past_byte 36) _ _ (quoted f) (quoted f) (eats_byte 36)
-        (keeps_then (dollar sub true) (dollar sub true) (λ p. pure (with_part f p)) (λ p. pure (with_part f p)) (keeps_dollar sub k true) (λ p. keeps_pure (with_part f p)))
+    (keeps_then (dollar sub true) (dollar sub true) (λ p. pure (with_part f p)) (λ p. pure (with_part f p)) (keeps_dollar sub k true) (λ p. keeps_pure (with_part f p)))
     (takes_quoted f)))
 
 takes_unit : (sub : Text → Outcome Text Simple) → Keeps sub sub → (f : Found) → Takes (unit sub f) (unit sub f)
@@ -179,7 +188,11 @@ at_end : (sub : Text → Outcome Text Simple) (f : Found) (x : Text) (a : Found)
 at_end sub f x a r b is e h =
     let q = right_of f a x (r ++ b) e in
     record {
-      front = r; spelling = q; has_stop = h; eats = omega arith; takes = λ goes. absurd (true_false (sym is ∙ goes));
+      front = r;
+      spelling = q;
+      has_stop = h;
+      eats = omega arith;
+      takes = λ goes. absurd (true_false (sym is ∙ goes));
       same = λ c m le. ends_here sub m f (r ++ c) (ends_same f r c h ∙ sym (ends_same f r b h) ∙ ap (ends f) (sym q) ∙ is) ∙ ap (λ y. Some (y, r ++ c)) (left_of f a x (r ++ b) e);
     }
 
@@ -203,11 +216,16 @@ kept_units sub k (suc n) f x a r b e h = by_end (ends f x) refl e (λ g y q. kep
         let m = rec w.first w.left w.is_second in
         let u = takes_unit sub k f x w.first m.front b (w.is_first ∙ ap (λ y. Some (w.first, y)) m.spelling) m.has_stop in
         record {
-          front = u.front; spelling = u.spelling; has_stop = u.has_stop; eats = omega (arith, m.eats, u.eats); takes = λ goes. omega (arith, m.eats, u.eats);
+          front = u.front;
+          spelling = u.spelling;
+          has_stop = u.has_stop;
+          eats = omega (arith, m.eats, u.eats);
+          takes = λ goes. omega (arith, m.eats, u.eats);
           same = λ c. elim [
-              zero ↦ λ le. absurd (omega (arith, le, u.eats))
+            | zero ↦ λ le. absurd (omega (arith, le, u.eats))
             | suc j ↦ λ le. goes_on sub j f (u.front ++ c) (ends_same f u.front c u.has_stop ∙ sym (ends_same f u.front b u.has_stop) ∙ ap (ends f) (sym u.spelling) ∙ is)
-                ∙ ap (λ o. and_then o (units sub j)) (u.same c) ∙ m.same c j (omega (arith, le, u.eats)) ];
+                ∙ ap (λ o. and_then o (units sub j)) (u.same c) ∙ m.same c j (omega (arith, le, u.eats))
+          ];
         }
 
 pub longer : (t b : Text) → length t ≤ length (t ++ b)

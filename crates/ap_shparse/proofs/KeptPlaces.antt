@@ -1,14 +1,11 @@
 -- What is read at a place stays read when another text follows.
-use Rattle.std.proofs.Common.{◌≡◌, ◌∙◌, ◌≤◌, ◌+◌, ◌-◌, ℕ, zero, suc, List, [], ◌∷◌, ◌++◌, ◌⊎◌, inl, inr, refl, sym, ap, ap₂, subst, Bool, true, false, cond, if◌then◌else◌, ◌||◌, ◌&&◌, ◌==◌, not, length, arith, length-append, take, drop, append_assoc, length-drop}
-use Rattle.std.specs.Prelude.{Option, Some, None, is_some, option_map}
-use Rattle.ap_shparse.specs.Bytes.{Text, after, begins_with, gap, past, past_byte}
-use Rattle.ap_shparse.specs.Reads.{Outcome, and_then, eaten, if_eaten, pure}
-use Rattle.ap_shparse.specs.Places.{Place, at_text, behind, body, body_of, delimiter, here, here_at, last, lift, line, next_line, or_line, past_gap, past_newline}
-use Rattle.ap_shparse.specs.declared.class.Class.TheVariants.{Blank}
-use Rattle.ap_shparse.specs.declared.tree.Simple.{Simple}
-use Rattle.ap_shparse.proofs.Keeps.{Both, Eating, Has, IsTest, Kept, KeepsAt, Keeps, Takes, both_of, left_of, right_of}
-use Rattle.ap_shparse.proofs.KeptPieces.{never_some}
-use Rattle.ap_shparse.proofs.KeptHere.{NotNil, keeps_delimiter, keeps_line, not_nil, whole_body}
+use Rattle.std.proofs.Common.{◌≡◌, ◌∙◌, ◌≤◌, ◌+◌, ℕ, ◌++◌, refl, sym, ap, subst, Bool, true, false, if◌then◌else◌, length, arith}
+use Rattle.std.specs.Prelude.{Option, Some, None, option_map}
+use Rattle.ap_shparse.specs.Bytes.{Text}
+use Rattle.ap_shparse.specs.Reads.{Outcome, and_then, if_eaten, pure}
+use Rattle.ap_shparse.specs.Places.{Place, at_text, lift}
+use Rattle.ap_shparse.proofs.Keeps.{Eating, Has, IsTest, KeepsAt, both_of, left_of, right_of}
+use Rattle.ap_shparse.proofs.KeptHere.{NotNil}
 
 -- a place, with this text behind
 abbrev pub place : Text → Option Text → Text → Place
@@ -84,7 +81,9 @@ pkept_lift n f f' k p a q r fs b tail e l =
     let s = right_of w.first a (at_text p w.left) q w.is_second in
     let m = k p.text w.first r b (w.is_first ∙ ap (λ y. Some (w.first, y)) (ap (λ y. y.text) s ∙ l.is_text)) l.has_stop in
     record {
-      front = m.front; bodies = fs; tail = tail;
+      front = m.front;
+      bodies = fs;
+      tail = tail;
       left = record { is_text = m.spelling; is_bodies = ap (λ y. y.bodies) s ∙ l.is_bodies; as_long = l.as_long; has_stop = m.has_stop; some = l.some };
       eats = m.eats;
       same = λ c. ap (λ o. and_then o (λ x t. Some (x, at_text (place m.front fs c) t))) (m.same c) ∙ ap (λ y. Some (y, place r fs c)) (left_of w.first a (at_text p w.left) q w.is_second);
@@ -98,13 +97,21 @@ pkept_if n q P P' Q Q' same kp kq p a z r fs b tail e l = by_test (q p.text) ref
     by_test true is e =
         let k = kp p a z r fs b tail e l in
         record {
-          front = k.front; bodies = k.bodies; tail = k.tail; left = k.left; eats = k.eats;
+          front = k.front;
+          bodies = k.bodies;
+          tail = k.tail;
+          left = k.left;
+          eats = k.eats;
           same = λ c. ap (λ v. if v then P' (place k.front k.bodies c) else Q' (place k.front k.bodies c)) (same k.front c k.left.has_stop ∙ sym (same k.front b k.left.has_stop) ∙ ap q (sym k.left.is_text) ∙ is) ∙ k.same c;
         }
     by_test false is e =
         let k = kq p a z r fs b tail e l in
         record {
-          front = k.front; bodies = k.bodies; tail = k.tail; left = k.left; eats = k.eats;
+          front = k.front;
+          bodies = k.bodies;
+          tail = k.tail;
+          left = k.left;
+          eats = k.eats;
           same = λ c. ap (λ v. if v then P' (place k.front k.bodies c) else Q' (place k.front k.bodies c)) (same k.front c k.left.has_stop ∙ sym (same k.front b k.left.has_stop) ∙ ap q (sym k.left.is_text) ∙ is) ∙ k.same c;
         }
 
@@ -117,14 +124,20 @@ pkept_if_eaten l n m o le lo E f f' g g' k kf kg p a z r fs b tail e d = by_eate
     by_eaten None is e =
         let j = kg p a z r fs b tail e d in
         record {
-          front = j.front; bodies = j.bodies; tail = j.tail; left = j.left; eats = omega (arith, j.eats, lo);
+          front = j.front;
+          bodies = j.bodies;
+          tail = j.tail;
+          left = j.left;
+          eats = omega (arith, j.eats, lo);
           same = λ c. ap (λ w. if_eaten w (λ t. f' (at_text (place j.front j.bodies c) t)) (g' (place j.front j.bodies c))) (k.none j.front b c (ap E (sym j.left.is_text) ∙ is) j.left.has_stop) ∙ j.same c;
         }
     by_eaten (Some u) is e =
         let j = kf (at_text p u) a z r fs b tail e d in
         let w = k.past p.text j.front b (is ∙ ap (λ v. Some v) j.left.is_text) j.left.has_stop in
         record {
-          front = w.front; bodies = j.bodies; tail = j.tail;
+          front = w.front;
+          bodies = j.bodies;
+          tail = j.tail;
           left = record { is_text = w.spelling; is_bodies = j.left.is_bodies; as_long = j.left.as_long; has_stop = w.has_stop; some = j.left.some };
           eats = omega (arith, j.eats, w.eats, le);
           same = λ c. ap (λ x. if_eaten x (λ t. f' (at_text (place w.front j.bodies c) t)) (g' (place w.front j.bodies c))) (w.same c) ∙ j.same c;

@@ -1,12 +1,12 @@
 -- Runs and gaps stay when another text follows.
-use Rattle.std.proofs.Common.{◌≡◌, ◌∙◌, ◌≤◌, ◌+◌, ℕ, zero, suc, List, [], ◌∷◌, ◌++◌, ◌⊎◌, inl, inr, refl, sym, ap, ap₂, subst, Bool, true, false, cond, if◌then◌else◌, ◌||◌, ◌&&◌, ◌==◌, not, length, arith, nat_le}
-use Rattle.std.specs.Prelude.{Option, Some, None, is_some}
+use Rattle.std.proofs.Common.{◌≡◌, ◌∙◌, ◌≤◌, ℕ, suc, [], ◌∷◌, ◌++◌, ◌⊎◌, inl, inr, refl, sym, ap, ap₂, subst, Bool, true, false, if◌then◌else◌, ◌==◌, length, arith}
+use Rattle.std.specs.Prelude.{Some}
 use Rattle.std.proofs.lemmas.Bool.Decides.{nat_tests}
 use Rattle.ap_shparse.specs.Bytes.{Text, after, gap, has, past_comment, run}
 use Rattle.ap_shparse.specs.Reads.{Outcome}
 use Rattle.ap_shparse.specs.declared.class.Class.{Class}
 use Rattle.ap_shparse.specs.declared.class.Class.TheVariants.{Blank, Comment, Digit, Name}
-use Rattle.ap_shparse.proofs.Keeps.{Has, Kept, Keeps, is_stop, left_of, right_of}
+use Rattle.ap_shparse.proofs.Keeps.{Has, Keeps, is_stop, left_of, right_of}
 
 abbrev pub taking : Class → Text → Outcome Text Text
 taking k t = Some (run k t, after k t)
@@ -57,7 +57,10 @@ keeps_taking k x a [] b e h = absurd h
 keeps_taking k x a (d ∷ u) b e h =
     let m = kept_run k x d u b (right_of (run k x) a (after k x) (d ∷ (u ++ b)) e) in
     record {
-      front = m.front; spelling = m.spelling; has_stop = m.has_stop h; eats = omega (arith, m.eats);
+      front = m.front;
+      spelling = m.spelling;
+      has_stop = m.has_stop h;
+      eats = omega (arith, m.eats);
       same = λ c. ap₂ (λ y z. Some (y, z)) (m.run_same c ∙ left_of (run k x) a (after k x) (d ∷ (u ++ b)) e) (m.after_same c);
     }
 
@@ -129,15 +132,22 @@ kept_gap x (d ∷ u) b e h = by_blanks (after Blank x) refl e
         let n = kept_run Comment w d u b e in
         let m = kept_run Blank x y n.front b (blanks ∙ ap (λ z. y ∷ z) n.spelling) in
         record {
-          front = m.front; spelling = m.spelling; has_stop = m.has_stop (inr (n.has_stop h)); eats = omega (arith, m.eats, n.eats);
+          front = m.front;
+          spelling = m.spelling;
+          has_stop = m.has_stop (inr (n.has_stop h));
+          eats = omega (arith, m.eats, n.eats);
           same = λ c. ap past_comment (m.after_same c) ∙ ap (λ v. if v then after Comment (n.front ++ c) else y ∷ (n.front ++ c)) is ∙ n.after_same c;
         }
     by_comment false y w is blanks e =
         let m = kept_run Blank x d u b (blanks ∙ e) in
         record {
-          front = m.front; spelling = m.spelling; has_stop = m.has_stop h; eats = omega (arith, m.eats);
+          front = m.front;
+          spelling = m.spelling;
+          has_stop = m.has_stop h;
+          eats = omega (arith, m.eats);
           same = λ c. ap past_comment (m.after_same c) ∙ ap (λ v. if v then after Comment (u ++ c) else d ∷ (u ++ c)) (ap (λ z. z == 35) (sym (head_of y d w (u ++ b) e)) ∙ is);
         }
+
     by_blanks : (v : Text) → after Blank x ≡ v → past_comment v ≡ d ∷ (u ++ b) → KeptGap x (d ∷ u) b
     by_blanks [] q e = cc
     by_blanks (y ∷ w) q e = by_comment (y == 35) y w refl q e

@@ -1,24 +1,22 @@
 -- Words, assignments and operators stay when another text follows.
-use Rattle.std.proofs.Common.{◌≡◌, ◌∙◌, ◌≤◌, ◌+◌, ◌-◌, ℕ, zero, suc, List, [], ◌∷◌, ◌++◌, ◌⊎◌, inl, inr, refl, sym, ap, ap₂, subst, Bool, true, false, cond, if◌then◌else◌, ◌||◌, ◌&&◌, ◌==◌, not, length, arith, length-append}
-use Rattle.std.specs.Prelude.{Option, Some, None, is_some, codes}
+use Rattle.std.proofs.Common.{◌≡◌, ◌∙◌, ◌-◌, ℕ, [], ◌∷◌, ◌++◌, inr, refl, sym, ap, ap₂, Bool, true, false, if◌then◌else◌, ◌||◌, ◌&&◌, ◌==◌, not, arith}
+use Rattle.std.specs.Prelude.{Some, None, is_some}
 use Rattle.std.proofs.lemmas.Bool.Decides.{nat_tests}
-use Rattle.ap_shparse.specs.Bytes.{Text, after, begins_with, ends_word, gap, is_among, is_plain, past, past_byte, run}
-use Rattle.ap_shparse.specs.Reads.{Outcome, and_then, eaten, if_eaten, pure}
-use Rattle.ap_shparse.specs.Pieces.{begins_name, expect, name, none_found, parts_of, pieces, units}
+use Rattle.ap_shparse.specs.Bytes.{Text, after, begins_with, ends_word, is_plain, past, past_byte}
+use Rattle.ap_shparse.specs.Reads.{Outcome, and_then, pure}
+use Rattle.ap_shparse.specs.Pieces.{expect, name, parts_of, pieces}
 use Rattle.ap_shparse.specs.Places.{args, bracket}
 use Rattle.ap_shparse.specs.Words.{assign, assignment, begins_word, differs, is_assignment, pieced, plain_word, text_word, value}
 use Rattle.ap_shparse.specs.Redirects.{both, file_word, is_angle, is_same, next_operator, read, redirects, same, same_at, write}
-use Rattle.ap_shparse.specs.Commands.{sees}
 use Rattle.ap_shparse.specs.declared.class.Class.TheVariants.{Blank, Digit, Name}
-use Rattle.ap_shparse.specs.declared.found.Found.{Found}
 use Rattle.ap_shparse.specs.declared.redirect.Operator.TheVariants as op
 use Rattle.ap_shparse.specs.declared.tree.Simple.{Simple}
 use Rattle.ap_shparse.specs.declared.tree.Target.TheVariants as target
 use Rattle.ap_shparse.specs.declared.tree.Word.{Word}
 use Rattle.ap_shparse.specs.declared.tree.Word.TheVariants as word
-use Rattle.ap_shparse.proofs.Keeps.{Eating, Has, IsTest, Kept, Keeps, Lacks, Takes, both_of, eats_byte, eats_word, ends_word_same, keeps_if, keeps_if_eaten, keeps_never, keeps_pure, keeps_takes, keeps_then, kept_if, kept_if_eaten, kept_never, left_of, never, right_of, takes_if_eaten, takes_then, then_takes}
+use Rattle.ap_shparse.proofs.Keeps.{Eating, IsTest, Kept, Keeps, Takes, both_of, eats_byte, eats_word, ends_word_same, keeps_if, keeps_if_eaten, keeps_never, keeps_pure, keeps_takes, keeps_then, kept_never, never, takes_if_eaten, takes_then, then_takes}
 use Rattle.ap_shparse.proofs.KeptRuns.{after_digits, after_name, keeps_taking, taking}
-use Rattle.ap_shparse.proofs.KeptPieces.{begins_name_same, keeps_expect, keeps_name, keeps_pieces, takes_expect, takes_pieces, one_of, never_some}
+use Rattle.ap_shparse.proofs.KeptPieces.{begins_name_same, keeps_name, keeps_pieces, takes_expect, takes_pieces, never_some}
 
 -- ---- tests
 
@@ -73,9 +71,12 @@ takes_pieced sub k x a r b e h = by_test (begins_word x) refl e
         let m = keeps_found w.first.dollar (word.Parts (parts_of w.first)) w.left a r b w.is_second h in
         let u = takes_pieces sub k x w.first m.front b (begins_inside x is) (w.is_first ∙ ap (λ y. Some (w.first, y)) m.spelling) m.has_stop in
         record {
-          front = u.front; spelling = u.spelling; has_stop = u.has_stop; eats = omega (arith, u.eats, m.eats);
+          front = u.front;
+          spelling = u.spelling;
+          has_stop = u.has_stop;
+          eats = omega (arith, u.eats, m.eats);
           same = λ c. ap (λ v. if v then and_then (pieces sub (u.front ++ c)) (λ f y. with_found f.dollar (word.Parts (parts_of f)) y) else None)
-                  (begins_word_same u.front c u.has_stop ∙ sym (begins_word_same u.front b u.has_stop) ∙ ap begins_word (sym u.spelling) ∙ is)
+              (begins_word_same u.front c u.has_stop ∙ sym (begins_word_same u.front b u.has_stop) ∙ ap begins_word (sym u.spelling) ∙ is)
               ∙ ap (λ o. and_then o (λ f y. with_found f.dollar (word.Parts (parts_of f)) y)) (u.same c) ∙ m.same c;
         }
     by_test false is e = absurd (never_some e)
@@ -108,9 +109,9 @@ unfolding next_operator
 takes_operator =
     takes_if_eaten (past_byte 62) _ _ _ _ (eats_byte 62) (keeps_if_eaten 1 (past_byte 38) (pure op.Same) (pure op.Same) (pure op.Write) (pure op.Write) (eats_byte 38) (keeps_pure op.Same) (keeps_pure op.Write))
     (takes_if_eaten (past_byte 60) _ _ never never (eats_byte 60)
-        (keeps_if_eaten 1 (past_byte 60) (pure op.Here) (pure op.Here) _ _ (eats_byte 60) (keeps_pure op.Here)
-        (keeps_if_eaten 1 (past_byte 62) (pure op.Both) (pure op.Both) (pure op.Read) (pure op.Read) (eats_byte 62) (keeps_pure op.Both) (keeps_pure op.Read)))
-        (kept_never 1))
+    (keeps_if_eaten 1 (past_byte 60) (pure op.Here) (pure op.Here) _ _ (eats_byte 60) (keeps_pure op.Here)
+    (keeps_if_eaten 1 (past_byte 62) (pure op.Both) (pure op.Both) (pure op.Read) (pure op.Read) (eats_byte 62) (keeps_pure op.Both) (keeps_pure op.Read)))
+    (kept_never 1))
 
 -- behind blanks
 keeps_blanks : {A : Type 0} (f f' : Text → Outcome Text A) → Keeps f f' → Keeps (λ t. f (after Blank t)) (λ t. f' (after Blank t))

@@ -10,3 +10,8 @@ pub mod KeptCommands
 pub mod KeptItems
 pub mod ItemLemmas
 pub mod GapLemmas
+pub mod FrontLemmas
+pub mod GrownLemmas
+pub mod LongestLemmas
+pub mod OutsideLemmas
+pub mod JoinLemmas

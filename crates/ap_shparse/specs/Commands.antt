@@ -49,18 +49,21 @@ targeted sub e o (Some n) p = and_then (target_of sub o p) (λ to. pure (with_re
 -- a digit, an operator and what follows it
 unfoldable pub redirection : (Text → Outcome Text Simple) → Elements → Place → Outcome Place Elements
 redirection sub e p = and_then (next_operator (after Digit p.text))
-    (λ o t. if e.here && is_here o then None else targeted sub e o (number o (run Digit p.text)) (at_text p t))
+    (λ o t. if e.here && is_here o then None
+    else targeted sub e o (number o (run Digit p.text)) (at_text p t))
 
 unfoldable pub assigned : (Text → Outcome Text Simple) → Elements → Place → Outcome Place Elements
 assigned sub e p = and_then (assignment sub p.text) (λ a t. Some (record e { assigns = e.assigns ++ a ∷ [] }, at_text p t))
 
 -- which of the two commands that end a script the word is, written without quotes
 abbrev pub calls_at : Text → Calls
-calls_at t = if sees (codes "exit") t then calls.Exit else (if sees (codes "exec") t then calls.Exec else calls.Other)
+calls_at t = if sees (codes "exit") t then calls.Exit
+    else (if sees (codes "exec") t then calls.Exec else calls.Other)
 
 -- the first word tells what is called; one of the others is more than the arguments
 abbrev pub with_word : Elements → Calls → Word → Elements
-with_word e k w = if is_nil e.words then record e { words = w ∷ []; calls = k } else record e { words = e.words ++ w ∷ []; more = true }
+with_word e k w = if is_nil e.words then record e { words = w ∷ []; calls = k }
+    else record e { words = e.words ++ w ∷ []; more = true }
 
 abbrev pub with_args : Elements → Elements
 with_args e = record e { words = e.words ++ word.Args ∷ [] }
@@ -84,7 +87,8 @@ past_blanks p = at_text p (after Blank p.text)
 -- the number bounds the turns
 unfoldable pub elements : (Text → Outcome Text Simple) → ℕ → Elements → Place → Outcome Place Elements
 elements sub zero e p = if ends_command (past_blanks p).text then Some (e, past_blanks p) else None
-elements sub (suc n) e p = if ends_command (past_blanks p).text then Some (e, past_blanks p) else and_then (element sub e (past_blanks p)) (elements sub n)
+elements sub (suc n) e p = if ends_command (past_blanks p).text then Some (e, past_blanks p)
+    else and_then (element sub e (past_blanks p)) (elements sub n)
 
 -- ---- the words that begin no simple command
 
@@ -92,7 +96,8 @@ abbrev pub is_keyword : Text → Bool
 is_keyword t = sees (codes "if") t || (sees (codes "then") t || (sees (codes "else") t || sees (codes "fi") t))
 
 abbrev pub is_loop : Text → Bool
-is_loop t = sees (codes "while") t || (sees (codes "until") t || (sees (codes "for") t || (sees (codes "do") t || sees (codes "done") t)))
+is_loop t = sees (codes "while") t || (sees (codes "until") t || (sees (codes "for") t
+    || (sees (codes "do") t || sees (codes "done") t)))
 
 abbrev pub is_left_out : Text → Bool
 is_left_out t = sees (codes "case") t || (sees (codes "esac") t || (sees (codes "elif") t || sees (codes "function") t))
@@ -115,7 +120,11 @@ stops calls.Exec more = more
 stops calls.Other more = false
 
 abbrev pub called : Elements → Called
-called e = record { simple = roll-Simple (record { assigns = e.assigns; words = e.words; redirections = e.redirections }); leaves = leaves e.calls; stops = stops e.calls e.more }
+called e = record {
+  simple = roll-Simple (record { assigns = e.assigns; words = e.words; redirections = e.redirections });
+  leaves = leaves e.calls;
+  stops = stops e.calls e.more;
+}
 
 unfoldable pub simple : (Text → Outcome Text Simple) → Place → Outcome Place Called
 simple sub p = if is_reserved p.text then None

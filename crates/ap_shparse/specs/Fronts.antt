@@ -1,6 +1,6 @@
 -- Whole fronts: lists, read of a prefix alone, in which each item of the outermost list has its newline or `;` and each
 -- here-document its closing line with a newline. Blanks and comments may stand at the end.
-use Rattle.std.specs.Prelude.{◌≡◌, ℕ, zero, suc, List, [], ◌∷◌, ◌++◌, Option, Some, None, Bool, true, false, ◌&&◌, not, if◌then◌else◌, length}
+use Rattle.std.specs.Prelude.{ℕ, zero, suc, List, [], ◌∷◌, ◌++◌, Option, Some, None, Bool, true, false, ◌&&◌, not, if◌then◌else◌, length}
 use Rattle.ap_shparse.specs.Bytes.{Text}
 use Rattle.ap_shparse.specs.Reads.{Outcome, and_then, if_eaten, pure}
 use Rattle.ap_shparse.specs.Places.{Place, newlines, past_gap, waits}
@@ -23,7 +23,8 @@ is_cut p = cut_at p.bodies
 
 -- an item with its end
 unfoldable pub whole_item : (Place → Outcome Place Item) → Place → Outcome Place Turn
-whole_item item p = and_then (item p) (λ c q. if is_cut q then None else and_then (ended (past_gap q)) (λ _. pure (turn_of c (waits q))))
+whole_item item p = and_then (item p) (λ c q. if is_cut q then None
+    else and_then (ended (past_gap q)) (λ _. pure (turn_of c (waits q))))
 
 -- nothing is left, and no here-document waits
 abbrev pub at_stop : List Turn → Place → Option (List Turn)
@@ -33,13 +34,16 @@ abbrev pub with_item : (List Turn → Place → Option (List Turn)) → List Tur
 with_item next found None = None
 with_item next found (Some o) = next (found ++ o.0 ∷ []) o.1
 
-abbrev pub on_item : (Place → Outcome Place Item) → (List Turn → Place → Option (List Turn)) → List Turn → Place → Option (List Turn)
-on_item item next found q = if is_nil q.text then at_stop found q else with_item next found (whole_item item q)
+abbrev pub on_item : (Place → Outcome Place Item) → (List Turn → Place → Option (List Turn)) → List Turn → Place
+    → Option (List Turn)
+on_item item next found q = if is_nil q.text then at_stop found q
+    else with_item next found (whole_item item q)
 
 -- the number bounds the turns
 unfoldable pub front_from : (Place → Outcome Place Item) → ℕ → List Turn → Place → Option (List Turn)
 front_from item zero found p = if is_cut p then None else if_eaten (newlines p) (at_stop found) None
-front_from item (suc n) found p = if is_cut p then None else if_eaten (newlines p) (on_item item (front_from item n) found) None
+front_from item (suc n) found p = if is_cut p then None
+    else if_eaten (newlines p) (on_item item (front_from item n) found) None
 
 unfoldable pub front : Text → Option (List Turn)
 front t = front_from (chain (list 64)) (length t) [] (alone t)

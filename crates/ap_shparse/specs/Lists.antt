@@ -47,16 +47,19 @@ past_twice c t = if_eaten (past_byte c t) (past_byte c) None
 
 -- `||`, which is true, or `&&`
 abbrev pub joiner : Text → Outcome Text Bool
-joiner t = if_eaten (past_twice 124 t) (λ u. Some (true, u)) (if_eaten (past_twice 38 t) (λ u. Some (false, u)) None)
+joiner t = if_eaten (past_twice 124 t)
+    (λ u. Some (true, u)) (if_eaten (past_twice 38 t) (λ u. Some (false, u)) None)
 
 abbrev pub joined : Bool → Node → Joined
 joined or n = roll-Joined (record { or = or; node = n })
 
 -- newlines may stand behind `||` and `&&`
 unfoldable pub join : Lists → List Joined → Bool → Place → Outcome Place (List Joined)
-join below found or p = if_eaten (newlines p) (λ q. and_then (command below q) (λ m. pure (found ++ joined or m.node ∷ []))) None
+join below found or p = if_eaten (newlines p)
+    (λ q. and_then (command below q) (λ m. pure (found ++ joined or m.node ∷ []))) None
 
-abbrev pub others_by : (Bool → Place → Outcome Place (List Joined)) → List Joined → Place → Outcome Text Bool → Outcome Place (List Joined)
+abbrev pub others_by : (Bool → Place → Outcome Place (List Joined)) → List Joined → Place → Outcome Text Bool
+    → Outcome Place (List Joined)
 others_by next found p None = Some (found, p)
 others_by next found p (Some o) = next o.0 (at_text p o.1)
 
@@ -70,7 +73,8 @@ abbrev pub item_of : Member → List Joined → Item
 item_of m rest = record { chain = roll-Chain (record { first = m.node; rest = rest }); stops = m.stops && is_nil rest }
 
 unfoldable pub chain : Lists → Place → Outcome Place Item
-chain below p = and_then (command below p) (λ m q. and_then (others below (length p.text) [] q) (λ rest. pure (item_of m rest)))
+chain below p = and_then (command below p)
+    (λ m q. and_then (others below (length p.text) [] q) (λ rest. pure (item_of m rest)))
 
 -- ---- lists
 
@@ -83,7 +87,8 @@ ended p = eaten (past_end p)
 
 -- an item with its end
 unfoldable pub next_item : Lists → List Chain → Place → Outcome Place (List Chain)
-next_item below found p = and_then (chain below p) (λ c q. and_then (ended (past_gap q)) (λ _. pure (found ++ c.chain ∷ [])))
+next_item below found p = and_then (chain below p)
+    (λ c q. and_then (ended (past_gap q)) (λ _. pure (found ++ c.chain ∷ [])))
 
 -- the words that close a list
 abbrev pub closes : Text → Bool
@@ -93,10 +98,12 @@ closes t = sees (codes "then") t || (sees (codes "else") t || sees (codes "fi") 
 unfoldable pub items_from : Lists → ℕ → List Chain → Lists
 items_from below zero found p = None
 items_from below (suc n) found p =
-    if_eaten (newlines p) (λ q. if closes q.text then Some (found, q) else and_then (next_item below found q) (items_from below n)) None
+    if_eaten (newlines p) (λ q. if closes q.text then Some (found, q)
+    else and_then (next_item below found q) (items_from below n)) None
 
 unfoldable pub items : Lists → Lists
-items below p = and_then (items_from below (length p.text) [] p) (λ found q. if is_nil found then None else Some (found, q))
+items below p = and_then (items_from below (length p.text) [] p) (λ found q. if is_nil found then None
+    else Some (found, q))
 
 -- a list in which `if` nests less than this deep
 unfoldable pub list : ℕ → Lists

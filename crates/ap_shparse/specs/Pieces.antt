@@ -81,13 +81,15 @@ single f t = and_then (expect 39 (after Quoted t)) (λ _ u. Some (with_bytes f (
 
 unfoldable pub plain : Found → Text → Outcome Text Found
 plain f [] = None
-plain f (c ∷ t) = if is_plain c then Some (with_bytes (record f { tilde = f.tilde || c == 126 }) (c ∷ []), t) else None
+plain f (c ∷ t) = if is_plain c then Some (with_bytes (record f { tilde = f.tilde || c == 126 }) (c ∷ []), t)
+    else None
 
 unfoldable pub outside : (Text → Outcome Text Simple) → Found → Text → Outcome Text Found
 outside sub f t =
     if_eaten (past_byte 39 t) (single f)
     (if_eaten (past_byte 34 t) (pure (record f { inside = true }))
-    (if_eaten (past_byte 36 t) (λ u. and_then (dollar sub false u) (λ p. pure (with_part (record f { dollar = true }) p)))
+    (if_eaten (past_byte 36 t)
+    (λ u. and_then (dollar sub false u) (λ p. pure (with_part (record f { dollar = true }) p)))
     (plain f t)))
 
 -- $, `, " and \
@@ -97,7 +99,8 @@ escapable = 36 ∷ 96 ∷ 34 ∷ 92 ∷ []
 -- behind `\` in double quotes
 unfoldable pub escaped : Found → Text → Outcome Text Found
 escaped f [] = None
-escaped f (c ∷ t) = if c == 10 then None else (if is_among c escapable then Some (with_bytes f (c ∷ []), t) else Some (with_bytes f (92 ∷ []), c ∷ t))
+escaped f (c ∷ t) = if c == 10 then None
+    else (if is_among c escapable then Some (with_bytes f (c ∷ []), t) else Some (with_bytes f (92 ∷ []), c ∷ t))
 
 unfoldable pub quoted : Found → Text → Outcome Text Found
 quoted f [] = None

@@ -1,5 +1,5 @@
 -- Where a reading stands in a text, and the here-documents that wait there (POSIX.1, 2.7.4).
-use Rattle.std.specs.Prelude.{ℕ, zero, suc, List, [], ◌∷◌, ◌++◌, Option, Some, None, Bool, false, ◌&&◌, ◌-◌, not, if◌then◌else◌, length, is_some, drop}
+use Rattle.std.specs.Prelude.{ℕ, zero, suc, [], ◌∷◌, ◌++◌, Option, Some, None, Bool, false, ◌&&◌, ◌-◌, not, if◌then◌else◌, length, is_some, drop}
 use Rattle.ap_shparse.specs.Bytes.{Text, after, begins_with, enders, ends_word, gap, is_among, past, past_byte, run}
 use Rattle.ap_shparse.specs.Reads.{Outcome, and_then, if_eaten, pure}
 use Rattle.ap_shparse.specs.Pieces.{expect, pieces}
@@ -73,12 +73,14 @@ lone t = if_eaten (past bracket t) (λ u. Some u) (past args t)
 -- a byte that no word holds, or a word
 unfoldable pub token : (Text → Outcome Text Simple) → Text → Outcome Text (Unit {0})
 token sub [] = None
-token sub (c ∷ t) = if is_among c enders then Some (tt, t) else if_eaten (lone (c ∷ t)) (pure tt) (and_then (pieces sub (c ∷ t)) (λ _. pure tt))
+token sub (c ∷ t) = if is_among c enders then Some (tt, t)
+    else if_eaten (lone (c ∷ t)) (pure tt) (and_then (pieces sub (c ∷ t)) (λ _. pure tt))
 
 -- at the next newline that isn't part of a word; the number bounds the turns
 unfoldable pub line_from : (Text → Outcome Text Simple) → ℕ → Text → Outcome Text (Unit {0})
 line_from sub zero t = None
-line_from sub (suc n) t = if begins_with 10 (gap t) then Some (tt, gap t) else and_then (token sub (gap t)) (λ _. line_from sub n)
+line_from sub (suc n) t = if begins_with 10 (gap t) then Some (tt, gap t)
+    else and_then (token sub (gap t)) (λ _. line_from sub n)
 
 unfoldable pub line : (Text → Outcome Text Simple) → Text → Outcome Text (Unit {0})
 line sub t = line_from sub (length t) t
@@ -112,7 +114,8 @@ here_at t b = record { text = t; bodies = Some b }
 
 -- the body stands behind those of the line's other here-documents
 abbrev pub body_of : (Text → Outcome Text Simple) → Option Text → Text → Text → Outcome Place Text
-body_of sub bodies d t = and_then (or_line sub t bodies) (λ _ u. and_then (body d u) (λ found b. Some (found, here_at t b)))
+body_of sub bodies d t = and_then (or_line sub t bodies)
+    (λ _ u. and_then (body d u) (λ found b. Some (found, here_at t b)))
 
 -- behind `<<` and blanks
 unfoldable pub here : (Text → Outcome Text Simple) → Place → Outcome Place Text

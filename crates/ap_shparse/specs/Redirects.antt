@@ -23,7 +23,8 @@ redirects t = is_angle (after Digit t)
 unfoldable pub next_operator : Text → Outcome Text Operator
 next_operator t =
     if_eaten (past_byte 62 t) (λ u. if_eaten (past_byte 38 u) (pure op.Same) (Some (op.Write, u)))
-    (if_eaten (past_byte 60 t) (λ u. if_eaten (past_byte 60 u) (pure op.Here) (if_eaten (past_byte 62 u) (pure op.Both) (Some (op.Read, u))))
+    (if_eaten (past_byte 60 t) (λ u. if_eaten (past_byte 60 u) (pure op.Here)
+    (if_eaten (past_byte 62 u) (pure op.Both) (Some (op.Read, u))))
     None)
 
 abbrev pub default : Operator → ℕ

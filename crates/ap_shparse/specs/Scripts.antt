@@ -1,5 +1,5 @@
 -- A whole text: the script that it is, or what is left where the first item begins that can't be taken.
-use Rattle.std.specs.Prelude.{◌≡◌, ℕ, zero, suc, List, [], ◌∷◌, ◌++◌, Some, None, Result, Ok, Err, Bool, ◌&&◌, ◌-◌, not, if◌then◌else◌, length, is_some, min}
+use Rattle.std.specs.Prelude.{◌≡◌, ℕ, zero, suc, List, [], ◌∷◌, ◌++◌, Some, None, Result, Ok, Err, Bool, ◌&&◌, ◌-◌, not, if◌then◌else◌, length, min}
 use Rattle.ap_shparse.specs.Bytes.{Text}
 use Rattle.ap_shparse.specs.Reads.{Outcome, and_then, if_eaten}
 use Rattle.ap_shparse.specs.Places.{Place, newlines, past_gap, waits}
@@ -18,11 +18,13 @@ turn_of c waiting = if c.stops && not waiting then turned.Last c.chain else turn
 
 -- behind an item and blanks: the last item may end with the text
 abbrev pub at_end : Item → Place → Outcome Place Turn
-at_end c p = if is_nil p.text then (if waits p then None else Some (turned.Last c.chain, p)) else and_then (ended p) (λ _ q. Some (turn_of c (waits p), q))
+at_end c p = if is_nil p.text then (if waits p then None
+    else Some (turned.Last c.chain, p)) else and_then (ended p) (λ _ q. Some (turn_of c (waits p), q))
 
 -- where an item may begin
 unfoldable pub turn : (Place → Outcome Place Item) → Place → Outcome Place Turn
-turn item p = if is_nil p.text then (if waits p then None else Some (turned.End, p)) else and_then (item p) (λ c q. at_end c (past_gap q))
+turn item p = if is_nil p.text then (if waits p then None
+    else Some (turned.End, p)) else and_then (item p) (λ c q. at_end c (past_gap q))
 
 -- the items, or how many bytes are left
 abbrev pub Answer : Type 0
@@ -40,7 +42,8 @@ left_at left p = if waits p then left else min left (length p.text)
 
 -- the number bounds the turns
 unfoldable pub script_from : (Place → Outcome Place Item) → ℕ → ℕ → List Chain → Place → Answer
-script_from item zero left found p = if_eaten (newlines p) (λ q. if is_nil q.text && not (waits q) then Ok found else Err (left_at left q)) (Err left)
+script_from item zero left found p = if_eaten (newlines p) (λ q. if is_nil q.text && not (waits q) then Ok found
+    else Err (left_at left q)) (Err left)
 script_from item (suc n) left found p =
     if_eaten (newlines p) (λ q. by_turn (script_from item n) (left_at left q) found (turn item q)) (Err left)
 

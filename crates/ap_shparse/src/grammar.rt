@@ -1,6 +1,6 @@
 //! The script of a text.
 ghost use Rattle.std.specs.Prelude.{◌≡◌, IfOk, IfErr, List};
-ghost use Rattle.ap_shparse.specs.Grammar.{IsOutside, IsScript, ReadsAs};
+ghost use Rattle.ap_shparse.specs.Grammar.{IsRefused, IsScript, ReadsAs};
 ghost use Rattle.ap_shparse.specs.declared.tree.Chain.{Chain};
 
 use crate::script::script;
@@ -19,22 +19,37 @@ pub fn parse(alloc: Global, text: &[u8], nul: Nul) -> Result<Script, ShellFault>
     ensures script { IfOk result (λ s. IsScript nul text.now s.items) }
     // A text that has a script isn't refused, unless memory runs out.
     ensures only { (cs : List Chain) → IsScript nul text.now cs → ReadsAs cs result }
-    ensures outside { IfErr result (IsOutside nul text.now) }
+    ensures outside { IfErr result (IsRefused nul text.now) }
 {
     match nul {
-        Nul::Keep => {
-            let items = script(alloc, text)?;
-            Ok(Script { items })
-        }
-        Nul::Drop => {
-            let seen = seen::without_nul(alloc, text)?;
-            match script(alloc, &seen) {
-                Ok(items) => Ok(Script { items }),
-                Err(ShellFault::NoMemory) => Err(ShellFault::NoMemory),
-                Err(ShellFault::Outside { at }) => Err(ShellFault::Outside {
-                    at: seen::past_nul(text, at as usize) as u64,
-                }),
-            }
-        }
+        Nul::Keep => kept(alloc, text),
+        Nul::Drop => dropped(alloc, text),
+    }
+}
+
+fn kept(alloc: Global, text: &[u8]) -> Result<Script, ShellFault>
+    ensures script { IfOk result (λ s. IsScript Nul.Keep text.now s.items) }
+    ensures only { (cs : List Chain) → IsScript Nul.Keep text.now cs → ReadsAs cs result }
+    ensures outside { IfErr result (IsRefused Nul.Keep text.now) }
+{
+    match script(alloc, text) {
+        Ok(items) => Ok(Script { items }),
+        Err(ShellFault::NoMemory) => Err(ShellFault::NoMemory),
+        Err(ShellFault::Outside { at }) => Err(ShellFault::Outside { at }),
+    }
+}
+
+fn dropped(alloc: Global, text: &[u8]) -> Result<Script, ShellFault>
+    ensures script { IfOk result (λ s. IsScript Nul.Drop text.now s.items) }
+    ensures only { (cs : List Chain) → IsScript Nul.Drop text.now cs → ReadsAs cs result }
+    ensures outside { IfErr result (IsRefused Nul.Drop text.now) }
+{
+    let seen = seen::without_nul(alloc, text)?;
+    match script(alloc, &seen) {
+        Ok(items) => Ok(Script { items }),
+        Err(ShellFault::NoMemory) => Err(ShellFault::NoMemory),
+        Err(ShellFault::Outside { at }) => Err(ShellFault::Outside {
+            at: seen::past_nul(text, at as usize) as u64,
+        }),
     }
 }

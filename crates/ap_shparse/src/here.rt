@@ -53,7 +53,12 @@ fn body(alloc: Global, text: &mut Text<'_>, delimiter: &[u8]) -> Result<Items<u8
 
 // The lines before the one that is the delimiter.
 #[tactic(auto, unfolding(crate::specs::Places::body_from))]
-fn lines_before(alloc: Global, text: &mut Text<'_>, delimiter: &[u8], turns: usize) -> Result<Items<u8>, Refusal>
+fn lines_before(
+    alloc: Global,
+    text: &mut Text<'_>,
+    delimiter: &[u8],
+    turns: usize,
+) -> Result<Items<u8>, Refusal>
     ensures { Reads (spec.body_from delimiter.now turns [] text.old) result text.new }
 {
     let mut found = Items::new(alloc);

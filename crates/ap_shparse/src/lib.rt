@@ -19,8 +19,10 @@ mod lists; // lists and `if`
 mod script; // a whole text
 mod seen; // texts without their NULs
 mod grammar; // the script of a text
+mod law; // what holds of the grammar itself
 
 pub use grammar::parse;
+pub use law::{lines_then_text, stopped_fronts_are_scripts, texts_have_one_script};
 pub use tree::{
     Assign, Chain, Joined, Node, Nul, Part, Redirection, Script, ShellFault, Simple, Target, Word,
 };

@@ -119,7 +119,8 @@ impl<S: Substitution> Words<S> {
 
     #[tactic(auto, unfolding(crate::specs::Commands::elements))]
     fn elements(&self, lines: &mut Lines<'_>) -> Result<Elements, Refusal>
-        ensures { Reads (spec.elements (S.reads self.now.sub) (length lines.old.text) spec.no_elements lines.old) result lines.new }
+        ensures { Reads (spec.elements (S.reads self.now.sub) (length lines.old.text) spec.no_elements lines.old)
+            result lines.new }
     {
         let turns = lines.text.len();
         let mut found = Elements::new(self.alloc);

@@ -167,11 +167,71 @@ fn answer(alloc: Global, text: &[u8], nul: Nul) -> Result<Vec<u8>, AllocError> {
     }
 }
 
+/// The script of a linked file, with a body that holds NUL, and what it is with NUL kept and dropped.
+const LINKED: &[u8] =
+    b"jartsr='\n' <<'apelink00000001'\n\0'`$(\"\napelink0000\00000\0\napelink00000001\n\
+    if command -v ape >/dev/null 2>&1; then\nexec ape \"$0\" \"$@\"\nfi\n\
+    m=$(uname -m)\ns=$(uname -s)\nt=\"${TMPDIR:-/tmp}/ape.$$\"\n\
+    if [ \"$s\" = Linux ] || [ \"$s\" = FreeBSD ]; then\n\
+    if [ \"$m\" = x86_64 ]; then\ncp \"$0\" \"$t\" || exit 121\n\
+    printf '\\177ELF' 1<>\"$t\" || exit 124\nexec \"$t\" \"$@\"\nfi\nfi\nexit 126\n\0\0)";
+
+const LINKED_KEPT: &[u8] = b"jartsr=<'\n'> 0<<'\0'`$(\"\napelink0000\00000\0\n' ;";
+
+const LINKED_DROPPED: &[u8] = b"jartsr=<'\n'> 0<<''`$(\"\napelink00000000\n' ;";
+
+const LINKED_REST: &[u8] =
+    b"if <'command'><'-v'><'ape'>1><'/dev/null'> 2>&1 ;then <'exec'><'ape'><$0><@>;else fi;\
+    m=<$(<'uname'><'-m'>)> ;s=<$(<'uname'><'-s'>)> ;t=<${TMPDIR:-/tmp}'/ape.'$$> ;\
+    if <'['><$s><'='><'Linux'><']'>||<'['><$s><'='><'FreeBSD'><']'>;then \
+    if <'['><$m><'='><'x86_64'><']'>;then <'cp'><$0><$t>||<'exit'><'121'>;\
+    <'printf'><'\\177ELF'>1<><$t> ||<'exit'><'124'>;<'exec'><$t><@>;else fi;else fi;<'exit'><'126'>;";
+
+fn joined(alloc: Global, first: &[u8], second: &[u8]) -> Result<Vec<u8>, AllocError> {
+    let mut both = Vec::from_slice(alloc, first)?;
+    both.extend_from_slice(second)?;
+    Ok(both)
+}
+
+/// `if` within `if`, so many deep.
+fn nested(alloc: Global, depth: u32) -> Result<Vec<u8>, AllocError> {
+    let mut text = Vec::new(alloc);
+    for _level in 0..depth {
+        text.extend_from_slice(b"if true; then\n")?;
+    }
+    text.extend_from_slice(b"exit 7\n")?;
+    for _level in 0..depth {
+        text.extend_from_slice(b"fi\n")?;
+    }
+    Ok(text)
+}
+
 #[test]
 fn texts_are_scripts(rt: HostRuntime) -> Result<(), Fail> {
     for row in ROWS.as_slice() {
         let found = answer(rt.alloc(), row.0, row.1)?;
         assert!(rt; found.as_slice() == row.2, "{row:?}");
     }
+    Ok(())
+}
+
+#[test]
+fn linked_files_are_scripts_in_both_readings(rt: HostRuntime) -> Result<(), Fail> {
+    let kept = answer(rt.alloc(), LINKED, Nul::Keep)?;
+    let dropped = answer(rt.alloc(), LINKED, Nul::Drop)?;
+    let wanted = joined(rt.alloc(), LINKED_KEPT, LINKED_REST)?;
+    assert!(rt; kept.as_slice() == wanted.as_slice(), "{kept:?}");
+    let wanted = joined(rt.alloc(), LINKED_DROPPED, LINKED_REST)?;
+    assert!(rt; dropped.as_slice() == wanted.as_slice(), "{dropped:?}");
+    Ok(())
+}
+
+#[test]
+fn if_nests_64_deep(rt: HostRuntime) -> Result<(), Fail> {
+    let deep = nested(rt.alloc(), 64)?;
+    assert!(rt; parse(rt.alloc(), deep.as_slice(), Nul::Keep).is_ok());
+    let deep = nested(rt.alloc(), 65)?;
+    let found = answer(rt.alloc(), deep.as_slice(), Nul::Keep)?;
+    assert!(rt; found.as_slice() == b"outside 0".as_slice());
     Ok(())
 }

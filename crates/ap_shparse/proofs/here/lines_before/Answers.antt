@@ -1,4 +1,4 @@
-use Rattle.std.proofs.Common.{rules, arith, true}
+use Rattle.std.proofs.Common.{rules, arith}
 use Rattle.std.proofs.lemmas.Grind.{common_steps}
 use Rattle.ap_shparse.specs.Places.{body_from}
 use Rattle.ap_shparse.proofs.Turns.{one_more}

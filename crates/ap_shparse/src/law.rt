@@ -1,0 +1,24 @@
+//! What holds of the grammar itself.
+ghost use Rattle.std.specs.Prelude.{List, ℕ, ◌++◌, ◌≡◌};
+ghost use Rattle.ap_shparse.specs.Grammar.{IsLineFront, IsScript, IsStopped};
+ghost use Rattle.ap_shparse.specs.declared.tree.Chain.{Chain};
+ghost use Rattle.ap_shparse.specs.declared.tree.Nul.{Nul};
+
+/// Whole lines without a stopping command, and a text of the grammar behind them, are in the grammar, and the script is
+/// the items of both in order. Lines are a whole front that is empty or ends with a newline.
+pub fn lines_then_text()
+    ensures { (n : Nul) (a b : List ℕ) (cs ds : List Chain)
+        → IsLineFront n a cs → IsScript n b ds → IsScript n (a ++ b) (cs ++ ds) }
+{}
+
+/// A text that begins with a whole front which has a stopping command is in the grammar, whatever follows, and its script
+/// is the items as far as the first such command.
+pub fn stopped_fronts_are_scripts()
+    ensures { (n : Nul) (a b : List ℕ) (cs : List Chain) → IsStopped n a cs → IsScript n (a ++ b) cs }
+{}
+
+/// A text has at most one script.
+pub fn texts_have_one_script()
+    ensures { (n : Nul) (t : List ℕ) (cs ds : List Chain)
+        → IsScript n t cs → IsScript n t ds → cs ≡ ds }
+{}
