@@ -14,7 +14,7 @@ use crate::load::Load;
 use crate::part::in_part;
 use crate::symbols::Symbols;
 use ap_files::{Files, SliceFiles};
-use ap_image::{Cells, Ending, FileCells, Walk, WalkCause};
+use ap_image::{Cells, Ending, FileCells, LastRead, Walk, WalkCause};
 
 /// Where the symbols of an input name its import table and its import address tables.
 #[derive(Clone, Copy)]
@@ -51,7 +51,7 @@ pub fn check_imports(input: &Input, base: u64, bytes: &[u8]) -> Result<(), Fault
 }
 
 /// Rule 28 of an input of the file of this name, as [`check_imports`] says. Of the file the bytes that the walk meets are read,
-/// one by one.
+/// in small parts.
 ///
 /// `ReadFault`: a read failed.
 pub fn check_imports_in<F: Files>(
@@ -71,6 +71,7 @@ pub fn check_imports_in<F: Files>(
         name,
         plan: &plan,
         size: input.size,
+        last: LastRead::new(),
     };
     check_cells(&mut cells, input, base)
 }

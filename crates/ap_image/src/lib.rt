@@ -8,6 +8,7 @@ mod cells; // what a plan has at an address
 mod run; // regions that touch, as one
 mod image_file; // the image file of a plan
 mod by_address; // bytes by their addresses
+mod last_read; // the part of a file that was read last
 mod plan_cells; // those that a plan shows
 mod import_step; // what a walk of an import directory gives
 mod import_place; // where it stands
@@ -25,6 +26,7 @@ pub use image_file::{DumpFault, address_count, dump};
 pub use import_item::{Import, ImportEnd, Wanted};
 pub use import_list::list_imports;
 pub use import_step::{Ending, Step, WalkCause, WalkEnd, WalkFault, What};
+pub use last_read::LastRead;
 pub use plan::{MOST_REGIONS, Plan, Region};
 pub use plan_cells::{FileCells, PlanCells};
 pub use reading::{Reading, reads_alike};
