@@ -83,7 +83,8 @@ fn check_cells<F: Files>(
     base: u64,
 ) -> Result<(), CheckEnd>
     requires base { base ≤ 2 ^ 48 }
-    requires plan { (byte : ℕ → ℕ) (a : ℕ) → shown_by byte cells.old.plan.now.regions a ≡ memory_of byte input.now.loads a }
+    requires plan { (byte : ℕ → ℕ) (a : ℕ) → shown_by byte cells.old.plan.now.regions a ≡
+        memory_of byte input.now.loads a }
     ensures same_reference { cells.new.files.ghost_name ≡ cells.old.files.ghost_name }
     ensures checks { ChecksTold (F.state cells.old.files.now) (F.state cells.new.files.now)
         cells.old.name.now (import_rules input.now base) result }

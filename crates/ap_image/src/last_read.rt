@@ -32,7 +32,8 @@ impl LastRead {
     /// The byte at a place, if it is in the part.
     #[tactic(auto, using(crate::proofs::LastReadLemmas::part_steps))]
     pub(crate) fn get(&self, at: u64) -> Option<u8>
-        ensures { IfSome result (λ byte. (file : List ℕ) → IsPartOf file self.now → byte ≡ slice_index file at) }
+        ensures { IfSome result
+            (λ byte. (file : List ℕ) → IsPartOf file self.now → byte ≡ slice_index file at) }
     {
         if at >= self.from && at - self.from < self.count.min(PART) as u64 {
             Some(self.bytes[(at - self.from) as usize])
