@@ -1,6 +1,7 @@
 pub mod LastReadLemmas
 pub mod Fetching
 pub mod ImportNames
+pub mod WalksAlike
 pub mod ImportLists
 pub mod WalkLemmas
 pub mod FileSizes

@@ -31,4 +31,4 @@ pub use plan::{MOST_REGIONS, Plan, Region};
 pub use plan_cells::{FileCells, PlanCells};
 pub use reading::{Reading, reads_alike};
 pub use run::{Run, runs};
-pub use walk::Walk;
+pub use walk::{Walk, walks_alike};
