@@ -6,16 +6,16 @@ use Rattle.ap_image.specs.declared.import_step.Step.TheVariants as step
 use Rattle.ap_image.specs.declared.import_step.What.TheVariants as what
 use Rattle.ap_image.specs.declared.import_step.WalkFault.{WalkFault}
 use Rattle.ap_image.specs.declared.import_step.WalkCause.TheVariants.{Long}
-use Rattle.ap_image.specs.declared.import_step.Ending.{Ending}
 use Rattle.ap_image.specs.declared.import_step.Ending.TheVariants as end
 use Rattle.ap_image.specs.declared.import_place.Place.{Place}
 use Rattle.ap_image.specs.declared.import_place.Found.{Found}
 use Rattle.ap_image.specs.declared.import_place.Word as word
 use Rattle.ap_image.specs.declared.import_place.TheConstants.{ENTRY_SIZE, WORD_SIZE, HINT_SIZE, MOST_NAME, MOST_ITEMS}
-use Rattle.ap_image.specs.declared.import_item.Import.{Import}
 use Rattle.ap_image.specs.Cells.{Memory, StandsIn}
-use Rattle.ap_image.specs.ImportWalk.{Items, after, byte_or, byte_at, bytes_from, name_from, name_at, entry_of, entry_at, entry_item, entry_read, entry_found, word_at, word_item, found, name_of, fault, named_item, with_item, ended, end_at, items_by, items_from, items_of}
-use Rattle.ap_image.specs.Imports.{bytes_of_name, wanted_of, imports_in, imports_of}
+use Rattle.ap_image.specs.ImportWalk.{Items, after, byte_or, byte_at, bytes_from, name_from, name_at, entry_of, entry_at, entry_item, entry_read, entry_found, word_at, word_item, found, name_of, fault, named_item, with_item, end_at, items_by, items_from, items_of}
+use Rattle.ap_image.specs.declared.import_item.Wanted.TheVariants as wanted
+use Rattle.ap_image.proofs.ImportLists.{behind_hint}
+use Rattle.ap_image.specs.Imports.{bytes_of_name, imports_in, imports_of}
 
 -- what one gives the other gives too
 Like : {T : Type 0} → Result T WalkFault → Result T WalkFault → Type 0
@@ -130,4 +130,50 @@ items-like m n base stop place (suc k) h e =
 pub walk-stands : (m n : Memory) (base table : ℕ) (stop : Option ℕ) → StandsIn m n → (items_of m base table stop).ending ≡ end.Done → items_of n base table None ≡ items_of m base table stop
 walk-stands m n base table stop h e = items-like m n base stop (record { entry = table; word = None }) MOST_ITEMS h e
 
-pub ruleset alike_steps = (walk-stands)
+-- and its names are the same
+same-name : (r q : Result (List ℕ) WalkFault) (name : List ℕ) → Like r q → r ≡ Ok name → bytes_of_name q ≡ bytes_of_name r
+unfolding Like
+same-name r q name h e = ap bytes_of_name (h name e ∙ sym e)
+
+import-like : (m n : Memory) (s : Step) (name dll : List ℕ) (items : List Step) → StandsIn m n → name_of m s ≡ Ok name → ((d : List ℕ) → imports_in n d items ≡ imports_in m d items)
+    → imports_in n dll (s ∷ items) ≡ imports_in m dll (s ∷ items)
+import-like m n (step.Entry at) name dll items h e k =
+    ap (λ d. imports_in n d items) (same-name (name_at m at) (name_at n at) name (name-like m n at at MOST_NAME h) e) ∙ k (bytes_of_name (name_at m at))
+import-like m n (step.Word (what.Name at) slot) name dll items h e k =
+    let read = behind_hint (bytes_from m (at - HINT_SIZE) HINT_SIZE) (name_at m at) name e in
+    ap (λ w. record { dll = dll; what = wanted.Name w; slot = slot } ∷ imports_in n dll items) (same-name (name_at m at) (name_at n at) name (name-like m n at at MOST_NAME h) read)
+    ∙ ap (λ l. record { dll = dll; what = wanted.Name (bytes_of_name (name_at m at)); slot = slot } ∷ l) (k dll)
+import-like m n (step.Word (what.Ordinal number) slot) name dll items h e k = ap (λ l. record { dll = dll; what = wanted.Ordinal number; slot = slot } ∷ l) (k dll)
+import-like m n step.Done name dll items h e k = k dll
+
+none-last : (r : Result (Option Found) WalkFault) → (end_at r).items ≡ []
+none-last (Ok None) = refl
+none-last (Ok (Some item)) = refl
+none-last (Err f) = refl
+
+imports-named : (m n : Memory) (s : Step) (r : Result (List ℕ) WalkFault) (rest : Items) (dll : List ℕ) → StandsIn m n → name_of m s ≡ r → ((d : List ℕ) → imports_in n d rest.items ≡ imports_in m d rest.items)
+    → imports_in n dll (named_item s r rest).items ≡ imports_in m dll (named_item s r rest).items
+imports-named m n s (Ok name) rest dll h e k = import-like m n s name dll rest.items h e k
+imports-named m n s (Err f) rest dll h e k = refl
+
+imports-by : (m n : Memory) (r : Result (Option Found) WalkFault) (rest : Place → Items) (dll : List ℕ) → StandsIn m n → ((p : Place) (d : List ℕ) → imports_in n d (rest p).items ≡ imports_in m d (rest p).items)
+    → imports_in n dll (items_by m r rest).items ≡ imports_in m dll (items_by m r rest).items
+imports-by m n (Ok None) rest dll h k = refl
+imports-by m n (Ok (Some item)) rest dll h k = imports-named m n item.step (name_of m item.step) (rest item.next) dll h refl (k item.next)
+imports-by m n (Err f) rest dll h k = refl
+
+imports-from : (m n : Memory) (base : ℕ) (stop : Option ℕ) (place : Place) (k : ℕ) (dll : List ℕ) → StandsIn m n
+    → imports_in n dll (items_from m base stop place k).items ≡ imports_in m dll (items_from m base stop place k).items
+unfolding items_from
+imports-from m n base stop place zero dll h =
+    let none = none-last (found m base stop place.entry place.word) in
+    ap (imports_in n dll) none ∙ sym (ap (imports_in m dll) none)
+imports-from m n base stop place (suc k) dll h =
+    imports-by m n (found m base stop place.entry place.word) (λ next. items_from m base stop next k) dll h (λ next d. imports-from m n base stop next k d h)
+
+pub imports-stand : (m n : Memory) (base table : ℕ) (stop : Option ℕ) → StandsIn m n → (items_of m base table stop).ending ≡ end.Done
+    → imports_of n (items_of n base table None) ≡ imports_of m (items_of m base table stop)
+imports-stand m n base table stop h e =
+    ap (λ (i : Items). imports_of n i) (walk-stands m n base table stop h e) ∙ imports-from m n base stop (record { entry = table; word = None }) MOST_ITEMS [] h
+
+pub ruleset alike_steps = (walk-stands, imports-stand)

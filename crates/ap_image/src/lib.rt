@@ -14,6 +14,7 @@ mod import_step; // what a walk of an import directory gives
 mod import_place; // where it stands
 mod import_read; // what it reads
 mod walk; // the walk
+mod walk_laws; // what holds of walks over two memories
 mod bytes; // bytes that a value holds
 mod import_item; // imports, with their names
 mod import_list; // the list of them
@@ -31,4 +32,5 @@ pub use plan::{MOST_REGIONS, Plan, Region};
 pub use plan_cells::{FileCells, PlanCells};
 pub use reading::{Reading, reads_alike};
 pub use run::{Run, runs};
-pub use walk::{Walk, walks_alike};
+pub use walk::Walk;
+pub use walk_laws::walks_alike;

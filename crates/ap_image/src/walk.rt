@@ -1,8 +1,7 @@
 // The walk of an import directory.
-ghost use Rattle.std.specs.Prelude.{◌≡◌, ◌≢◌, ◌<◌, ◌≤◌, ◌+◌, ◌*◌, ◌^◌, ℕ, Option, IfOk, IfSome, None};
+ghost use Rattle.std.specs.Prelude.{◌≡◌, ◌≢◌, ◌<◌, ◌≤◌, ◌+◌, ◌*◌, ◌^◌, ℕ, IfOk, IfSome, None};
 ghost use Rattle.std.specs.Option.{ForSome};
-ghost use Rattle.ap_image.specs.Cells.{Memory, StandsIn, Tells};
-ghost use Rattle.ap_image.specs.declared.import_step.Ending.TheVariants as ends;
+ghost use Rattle.ap_image.specs.Cells.{Memory, Tells};
 ghost use Rattle.ap_image.specs.ImportWalk as spec;
 ghost use Rattle.ap_image.specs.ImportWalk.{found, entry_found, items_of};
 ghost use Rattle.ap_image.specs.WalkSteps as steps;
@@ -158,15 +157,6 @@ impl Walk {
         Ok(entry_item(self.base, at, &entry))
     }
 }
-
-/// A walk that ends at the entry which closes the table gives the same items without an end of the table, and where other bytes
-/// stand beside those of the memory.
-#[tactic(auto, using(crate::proofs::WalksAlike::alike_steps))]
-pub fn walks_alike()
-    ensures { (memory other : Memory) (base table : ℕ) (end : Option ℕ) → StandsIn memory other
-        → (items_of memory base table end).ending ≡ ends.Done
-        → items_of other base table None ≡ items_of memory base table end }
-{}
 
 fn answer(ending: Ending) -> Result<Step, WalkEnd>
     ensures { result ≡ steps.answer_of ending }
