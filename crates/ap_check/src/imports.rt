@@ -1,5 +1,11 @@
 // Rule 28: the import table of an input.
-ghost use Rattle.std.specs.Prelude.{◌≡◌, ◌≤◌, ◌^◌, ℕ, length, OnOk};
+ghost use Rattle.std.specs.Prelude.{◌≡◌, ◌≤◌, ◌^◌, ℕ, List, length, OnOk, Some, None};
+ghost use Rattle.ap_fields.specs.FirstFault.{first_fault};
+ghost use Rattle.ap_image.specs.Cells.{Memory};
+ghost use Rattle.ap_image.specs.ImportWalk.{items_of};
+ghost use Rattle.ap_image.specs.declared.import_step.Ending.TheVariants as ends;
+ghost use Rattle.ap_check.specs.declared.load.Load.{Load};
+ghost use Rattle.ap_check.specs.declared.imports.ImportTable.{ImportTable};
 ghost use Rattle.ap_image.specs.PlanCells.{shown_by};
 ghost use Rattle.ap_files.specs.Reads.{HasSize};
 ghost use Rattle.ap_check.specs.Rules.{Checks};
@@ -75,6 +81,14 @@ pub fn check_imports_in<F: Files>(
     };
     check_cells(&mut cells, input, base)
 }
+
+/// Where rule 28 holds of an import table, the walk of it ends at the entry that closes the table.
+#[tactic(auto, using(crate::proofs::ImportLemmas::end_steps))]
+pub fn import_tables_end()
+    ensures { (n base : ℕ) (loads : List Load) (memory : Memory) (t : ImportTable) →
+        first_fault (table_rules n loads base memory (Some t)) ≡ None →
+        (items_of memory base t.idata (Some t.idata_end)).ending ≡ ends.Done }
+{}
 
 // Rule 28 of an input whose file and plan these are.
 fn check_cells<F: Files>(

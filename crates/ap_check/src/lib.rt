@@ -32,7 +32,7 @@ pub use check::check_input;
 pub use end::CheckEnd;
 pub use fault::Fault;
 pub use file::check_input_in;
-pub use imports::{ImportTable, check_imports, check_imports_in};
+pub use imports::{ImportTable, check_imports, check_imports_in, import_tables_end};
 pub use input::Input;
 pub use input_plan::{bytes_are_cells, plan_of};
 pub use job::Job;
