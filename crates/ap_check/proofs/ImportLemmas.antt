@@ -1,5 +1,5 @@
 -- Rule 28: what holds where its first parts do, and the regions of an input.
-use Rattle.std.proofs.Common.{◌≡◌, ℕ, ◌+◌, ◌-◌, ◌^◌, ◌<◌, ◌≤◌, nat_lt, if◌then◌else◌, Bool, true, false, List, [], ◌∷◌, map, Option, Some, unwrap_or, Result, Ok, Err, refl, sym, ap, ◌∙◌, arith, inl, inr, lit≤}
+use Rattle.std.proofs.Common.{◌≡◌, ℕ, ◌+◌, ◌-◌, ◌^◌, ◌<◌, ◌≤◌, nat_lt, if◌then◌else◌, Bool, true, false, List, [], ◌∷◌, map, Option, Some, unwrap_or, Result, Ok, Err, refl, sym, ap, ◌∙◌, arith, inl, inr, lit≤, None}
 use Rattle.std.specs.Option.{option_map}
 use Rattle.std.proofs.lemmas.Bool.{cases_Bool, cases_eq, eq-eqb, ne_eqb}
 use Rattle.std.proofs.lemmas.Bool.Decides.{nat_tests}
@@ -24,7 +24,13 @@ use Rattle.ap_check.specs.declared.end.CheckEnd.{CheckEnd}
 use Rattle.ap_check.specs.declared.end.CheckEnd.TheVariants.{Rule, ReadFault}
 use Rattle.ap_check.specs.Inputs.{Taken, AreLoads, IsLoad, has_address, has_part, in_part, load_of}
 use Rattle.ap_check.specs.InputPlans.{region_of}
-use Rattle.ap_check.specs.ImportRule.{load_byte, memory_of, are_between, table_of, table_rules, import_rules, ChecksCells, ChecksTold}
+use Rattle.ap_fields.specs.FirstFault.{first_fault}
+use Rattle.ap_fields.proofs.FirstFaults.{append-none}
+use Rattle.ap_image.specs.ImportWalk.{items_of}
+use Rattle.ap_image.specs.declared.import_step.Ending.{Ending}
+use Rattle.ap_image.specs.declared.import_step.Ending.TheVariants as end
+use Rattle.ap_check.specs.declared.imports.ImportTable.{ImportTable}
+use Rattle.ap_check.specs.ImportRule.{range_rules, walk_rules, walked_rules, load_byte, memory_of, are_between, table_of, table_rules, import_rules, ChecksCells, ChecksTold}
 
 -- addresses in the file part of a load
 pub part-top : (g size low a count : ℕ) (loads : List Load) → AreLoads g size low loads → in_part a count loads ≡ true → a + count ≤ 2 ^ 47
@@ -161,4 +167,16 @@ file-checked old new name name' regions regions' b b' i base (Err ReadFault) pla
       ap (λ (o : Others). o.borrowed) same,
     )
 
+-- where rule 28 holds, the walk ends at the entry that closes the table
+done_of : (n : ℕ) (ending : Ending) → first_fault (walk_rules n ending) ≡ None → ending ≡ end.Done
+done_of n end.Done h = refl
+done_of n (end.Fault f) h = absurd (cc)
+
+pub walk-done : (n : ℕ) (loads : List Load) (base : ℕ) (memory : Memory) (t : ImportTable) → first_fault (table_rules n loads base memory (Some t)) ≡ None
+    → (items_of memory base t.idata (Some t.idata_end)).ending ≡ end.Done
+walk-done n loads base memory t h =
+    done_of n (items_of memory base t.idata (Some t.idata_end)).ending (append-none (range_rules n loads t) (walked_rules n base memory t) h).1
+
 pub ruleset memory_steps = (memory-cells)
+
+pub ruleset end_steps = (walk-done)

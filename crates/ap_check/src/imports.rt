@@ -1,5 +1,11 @@
 // Rule 28: the import table of an input.
-ghost use Rattle.std.specs.Prelude.{◌≡◌, ◌≤◌, ◌^◌, ℕ, length, OnOk, IfSome};
+ghost use Rattle.std.specs.Prelude.{◌≡◌, ◌≤◌, ◌^◌, ℕ, List, OnOk, IfSome, Some, None};
+ghost use Rattle.ap_fields.specs.FirstFault.{first_fault};
+ghost use Rattle.ap_image.specs.Cells.{Memory};
+ghost use Rattle.ap_image.specs.ImportWalk.{items_of};
+ghost use Rattle.ap_image.specs.declared.import_step.Ending.TheVariants as ends;
+ghost use Rattle.ap_check.specs.declared.load.Load.{Load};
+ghost use Rattle.ap_check.specs.declared.imports.ImportTable.{ImportTable};
 ghost use Rattle.ap_image.specs.PlanCells.{shown_by};
 ghost use Rattle.ap_files.specs.Reads.{HasSize};
 ghost use Rattle.ap_check.specs.Rules.{Checks};
@@ -14,7 +20,7 @@ use crate::load::Load;
 use crate::part::in_part;
 use crate::symbols::Symbols;
 use ap_files::Files;
-use ap_image::{Cells, Ending, FileCells, Walk, WalkCause};
+use ap_image::{Cells, Ending, FileCells, LastRead, Walk, WalkCause};
 
 /// Where the symbols of an input name its import table and its import address tables.
 #[derive(Clone, Copy)]
@@ -37,7 +43,7 @@ pub struct ImportTable {
 ///
 /// Of parts 3 to 6 the one that the walk meets first is the fault.
 ///
-/// Of the file the bytes that the walk meets are read, one by one.
+/// Of the file the bytes that the walk meets are read, in small parts.
 ///
 /// `ReadFault`: a read failed.
 pub fn check_imports_in<F: Files>(
@@ -59,9 +65,18 @@ pub fn check_imports_in<F: Files>(
         name,
         plan: &plan,
         size: input.size,
+        last: LastRead::new(),
     };
     check_cells(&mut cells, input, base)
 }
+
+/// Where rule 28 holds of an import table, the walk of it ends at the entry that closes the table.
+#[tactic(auto, using(crate::proofs::ImportLemmas::end_steps))]
+pub fn import_tables_end()
+    ensures { (n base : ℕ) (loads : List Load) (memory : Memory) (t : ImportTable) →
+        first_fault (table_rules n loads base memory (Some t)) ≡ None →
+        (items_of memory base t.idata (Some t.idata_end)).ending ≡ ends.Done }
+{}
 
 // Rule 28 of an input whose file and plan these are.
 fn check_cells<F: Files>(
@@ -70,7 +85,8 @@ fn check_cells<F: Files>(
     base: u64,
 ) -> Result<(), CheckEnd>
     requires base { base ≤ 2 ^ 48 }
-    requires plan { (byte : ℕ → ℕ) (a : ℕ) → shown_by byte cells.old.plan.now.regions a ≡ memory_of byte input.now.loads a }
+    requires plan { (byte : ℕ → ℕ) (a : ℕ) → shown_by byte cells.old.plan.now.regions a ≡
+        memory_of byte input.now.loads a }
     ensures same_reference { cells.new.files.ghost_name ≡ cells.old.files.ghost_name }
     ensures checks { ChecksTold (F.state cells.old.files.now) (F.state cells.new.files.now)
         cells.old.name.now (import_rules input.now base) result }

@@ -33,7 +33,7 @@ pub use check::check_input;
 pub use end::CheckEnd;
 pub use fault::Fault;
 pub use file::check_input_in;
-pub use imports::{ImportTable, table_of};
+pub use imports::{ImportTable, import_tables_end, table_of};
 pub use input::Input;
 pub use input_plan::{bytes_are_cells, plan_of};
 pub use job::Job;

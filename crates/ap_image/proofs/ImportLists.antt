@@ -64,7 +64,7 @@ pub dll-read : (m : Memory) (w : Walking) (at : ℕ) (rest : Items) (f : WalkFau
 unfolding IsNamed
 dll-read m w at rest f h e = let named = named_left m w w.over (step.Entry at) rest h in ok_err named.0 f (name_at m at) named.1 e
 
-behind_hint : (r name : Result (List ℕ) WalkFault) (bytes : List ℕ) → after r (λ hint. name) ≡ Ok bytes → name ≡ Ok bytes
+pub behind_hint : (r name : Result (List ℕ) WalkFault) (bytes : List ℕ) → after r (λ hint. name) ≡ Ok bytes → name ≡ Ok bytes
 behind_hint (Ok hint) name bytes h = h
 behind_hint (Err f) name bytes h = absurd (cc)
 

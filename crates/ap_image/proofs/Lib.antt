@@ -1,8 +1,10 @@
+pub mod LastReadLemmas
 pub mod Fetching
 pub mod ImportNames
+pub mod WalksAlike
 pub mod ImportLists
 pub mod WalkLemmas
-pub mod ShownBytes
+pub mod FileSizes
 pub mod RegionBytes
 pub mod RegionCells
 pub mod Totals

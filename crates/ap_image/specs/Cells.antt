@@ -38,3 +38,7 @@ Tells old new P (Err failed) = Unreadable old new
 -- the byte at an address
 abbrev pub Shows : CellsState → CellsState → ℕ → Result (Option ℕ) Failed → Type 0
 Shows old new a result = Tells old new (λ memory byte. memory a ≡ byte) result
+
+-- the bytes of one memory stand in another
+abbrev pub StandsIn : Memory → Memory → Type 0
+StandsIn memory other = (a byte : ℕ) → memory a ≡ Some byte → other a ≡ Some byte

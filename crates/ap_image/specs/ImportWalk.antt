@@ -1,5 +1,6 @@
 -- The import walk: the import directory of a program in memory (PE/COFF, "The .idata Section"), as a list of its entries and
--- of the words of their import lookup tables, and how the list ends.
+-- of the words of their import lookup tables, and how the list ends. Bytes are looked at in the order in which they are written
+-- here, one after the other, and the first that isn't there ends the walk.
 use Rattle.std.specs.Prelude.{ℕ, zero, suc, ◌+◌, ◌-◌, ◌%◌, ◌^◌, ◌==◌, ◌||◌, nat_le, nat_lt, if◌then◌else◌, List, [], ◌∷◌, Option, Some, None, Result, Ok, Err}
 use Rattle.ap_fields.specs.Fields.{number_at}
 use Rattle.ap_image.specs.Cells.{Memory}
@@ -18,10 +19,11 @@ use Rattle.ap_image.specs.declared.import_place.Place.{Place}
 use Rattle.ap_image.specs.declared.import_place.Found.{Found}
 use Rattle.ap_image.specs.declared.import_place.TheConstants.{ENTRY_SIZE, WORD_SIZE, HINT_SIZE, MOST_NAME, MOST_ITEMS}
 
+-- why the walk ends, and where
 abbrev pub fault : WalkCause → ℕ → WalkFault
 fault cause at = record { cause = cause; at = at }
 
--- something that is read, and then something else, unless there is a fault
+-- what is read first, and then the rest by it; a fault of the first is one of the whole
 abbrev pub after : {S T : Type 0} → Result S WalkFault → (S → Result T WalkFault) → Result T WalkFault
 after (Ok x) f = f x
 after (Err e) f = Err e
@@ -39,7 +41,7 @@ unfoldable pub bytes_from : Memory → ℕ → ℕ → Result (List ℕ) WalkFau
 bytes_from memory a zero = Ok []
 bytes_from memory a (suc n) = after (byte_at memory a) (λ b. after (bytes_from memory (suc a) n) (λ bytes. Ok (b ∷ bytes)))
 
--- what is left of a name from an address on, up to its first NUL: at most n bytes
+-- what is left of a name from an address on: at most n bytes before its first NUL, and else it is too long
 unfoldable pub name_from : Memory → ℕ → ℕ → ℕ → Result (List ℕ) WalkFault
 name_from memory start a zero = after (byte_at memory a) (λ b. if b == 0 then Ok [] else Err (fault Long start))
 name_from memory start a (suc n) =
@@ -64,14 +66,14 @@ entry_item base at e =
     then None
     else Some (record { at = at; step = Entry (base + e.name); next = record { entry = at + ENTRY_SIZE; word = Some (words_of base e) } })
 
--- the entry at an address
+-- the entry at an address, of which all bytes are read
 abbrev pub entry_at : Memory → ℕ → Result DirectoryEntry WalkFault
 entry_at memory at = after (bytes_from memory at ENTRY_SIZE) (λ b. Ok (entry_of b))
 
 abbrev pub entry_read : Memory → ℕ → ℕ → Result (Option Found) WalkFault
 entry_read memory base at = after (entry_at memory at) (λ e. Ok (entry_item base at e))
 
--- which ends at or below the end of the table, where there is one
+-- and before it is read, that it doesn't pass the end of the table, where there is one
 abbrev pub entry_found : Memory → ℕ → Option ℕ → ℕ → Result (Option Found) WalkFault
 entry_found memory base None at = entry_read memory base at
 entry_found memory base (Some stop) at = if nat_lt stop (at + ENTRY_SIZE) then Err (fault NoEnd stop) else entry_read memory base at
@@ -105,10 +107,6 @@ name_of memory (Word (Name at) slot) = after (bytes_from memory (at - HINT_SIZE)
 name_of memory (Word (Ordinal number) slot) = Ok []
 name_of memory Done = Ok []
 
--- that something is read
-abbrev pub passed : {T : Type 0} → Result T WalkFault → Result (Unit {0}) WalkFault
-passed r = after r (λ x. Ok tt)
-
 -- the items, and how they end
 pub record Items : Type 0 where
   pub items : List Step
@@ -120,7 +118,7 @@ ended ending = record { items = []; ending = ending }
 abbrev pub with_item : Step → Items → Items
 with_item step rest = record { items = step ∷ rest.items; ending = rest.ending }
 
--- how the items end where no more may come
+-- how the items end where no more may come: an entry or a word is read before it is one too many, and its name isn't
 abbrev pub end_at : Result (Option Found) WalkFault → Items
 end_at (Ok None) = ended end.Done
 end_at (Ok (Some item)) = ended (end.Fault (fault Many item.at))

@@ -8,3 +8,4 @@ pub mod WalkSteps
 pub mod WalkBounds
 pub mod PlanCells
 pub mod Imports
+pub mod LastReads

@@ -32,6 +32,10 @@ left_by memory w (Some ending) = ended ending
 abbrev pub left_of : Memory → Walking → Items
 left_of memory w = left_by memory w w.over
 
+-- that something is read, whatever it is
+abbrev pub passed : {T : Type 0} → Result T WalkFault → Result (Unit {0}) WalkFault
+passed r = after r (λ x. Ok tt)
+
 -- the item that is met next, unless it is one too many or its name isn't read
 abbrev pub taken : Memory → ℕ → Option Found → Result (Option Found) WalkFault
 taken memory left None = Ok None

@@ -55,7 +55,8 @@ fn push_word<C: Cells>(
 ) -> Result<(), ImportEnd>
     requires { IsNear (Step.Word what slot) }
     ensures { Gathers (C.state cells.old) (C.state cells.new)
-        (λ memory done. imports.new.items ≡ imports.old.items ++ record { dll = dll.now; what = wanted_of memory what; slot = slot } ∷ [])
+        (λ memory done. imports.new.items ≡ imports.old.items ++
+        record { dll = dll.now; what = wanted_of memory what; slot = slot } ∷ [])
         (λ memory f. fault_of memory what f) result }
 {
     let what = match read_wanted(alloc, cells, what) {
@@ -76,7 +77,8 @@ fn push_import(
     slot: u64,
 ) -> Result<(), AllocError>
     ensures { OnOk result
-        (imports.new.items ≡ imports.old.items ++ record { dll = dll.now; what = what; slot = slot } ∷ []) }
+        (imports.new.items ≡ imports.old.items ++
+        record { dll = dll.now; what = what; slot = slot } ∷ []) }
 {
     let dll = Bytes::new(Vec::from_slice(alloc, dll.as_slice())?);
     imports.push(Import { dll, what, slot })?;
@@ -101,8 +103,8 @@ fn read_wanted<C: Cells>(alloc: Global, cells: &mut C, what: What) -> Result<Wan
 // The name at an address, up to its first NUL.
 fn read_name<C: Cells>(alloc: Global, cells: &mut C, start: u64) -> Result<Bytes, ImportEnd>
     requires { start ≤ 2 ^ 62 }
-    ensures { Gathers (C.state cells.old) (C.state cells.new) (λ memory name. name_at memory start ≡ Ok name)
-        (λ memory f. name_at memory start ≡ Err f) result }
+    ensures { Gathers (C.state cells.old) (C.state cells.new)
+        (λ memory name. name_at memory start ≡ Ok name) (λ memory f. name_at memory start ≡ Err f) result }
 {
     let mut name = Vec::new(alloc);
     for i in 0..MOST_NAME + 1 {

@@ -1,8 +1,8 @@
 // What is read of an import directory, byte by byte.
 ghost use Rattle.std.specs.Prelude.{◌≡◌, ◌+◌, ◌≤◌, ◌^◌, length};
 ghost use Rattle.ap_image.specs.ImportWalk as spec;
-ghost use Rattle.ap_image.specs.ImportWalk.{bytes_from, name_at, name_of, passed};
-ghost use Rattle.ap_image.specs.WalkSteps.{IsNear, Fetches};
+ghost use Rattle.ap_image.specs.ImportWalk.{bytes_from, name_at, name_of};
+ghost use Rattle.ap_image.specs.WalkSteps.{IsNear, Fetches, passed};
 
 use crate::by_address::Cells;
 use crate::import_place::{DirectoryEntry, ENTRY_SIZE, HINT_SIZE, MOST_NAME, WORD_SIZE};

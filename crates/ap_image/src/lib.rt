@@ -8,11 +8,13 @@ mod cells; // what a plan has at an address
 mod run; // regions that touch, as one
 mod image_file; // the image file of a plan
 mod by_address; // bytes by their addresses
+mod last_read; // the part of a file that was read last
 mod plan_cells; // those that a plan shows
 mod import_step; // what a walk of an import directory gives
 mod import_place; // where it stands
 mod import_read; // what it reads
 mod walk; // the walk
+mod walk_laws; // what holds of walks over two memories
 mod bytes; // bytes that a value holds
 mod import_item; // imports, with their names
 mod import_list; // the list of them
@@ -25,8 +27,10 @@ pub use image_file::{DumpFault, address_count, dump};
 pub use import_item::{Import, ImportEnd, Wanted};
 pub use import_list::list_imports;
 pub use import_step::{Ending, Step, WalkCause, WalkEnd, WalkFault, What};
+pub use last_read::LastRead;
 pub use plan::{MOST_REGIONS, Plan, Region};
 pub use plan_cells::{FileCells, PlanCells};
 pub use reading::{Reading, reads_alike};
 pub use run::{Run, runs};
 pub use walk::Walk;
+pub use walk_laws::walks_alike;

@@ -1,10 +1,12 @@
 // The bytes that a plan shows, of bytes in memory and of a file by its name.
 ghost use Rattle.ap_image.specs.Plans.{AreBacked};
+ghost use Rattle.ap_image.specs.LastReads.{IsPart};
 ghost use Rattle.ap_image.specs.PlanCells.{plan_state, file_state, IsSized, AreBacked-prop};
 ghost use Rattle.std.specs.Prelude.{length};
 
 use crate::by_address::Cells;
 use crate::cells::{Shown, cell, look_up};
+use crate::last_read::LastRead;
 use crate::plan::Plan;
 use ap_files::{Failed, Files};
 
@@ -27,7 +29,7 @@ impl Cells for PlanCells<'_> {
     }
 }
 
-/// The bytes that a plan shows of a file by its name.
+/// The bytes that a plan shows of a file by its name, which is read in small parts.
 #[derive(Drop)]
 pub struct FileCells<'f, 'n, 'p, F: Files> {
     pub files: &'f mut F,
@@ -35,6 +37,9 @@ pub struct FileCells<'f, 'n, 'p, F: Files> {
     pub plan: &'p Plan,
     /// The file's length in bytes.
     pub size: u64,
+    /// What was read of it last.
+    pub last: LastRead,
+    ghost held: { IsPart (F.state files.now).kept name.now last },
     ghost sized: { IsSized (F.state files.now).kept name.now size },
     ghost backed: { AreBacked plan.now.regions size } by { AreBacked-prop plan.now.regions size },
 }
@@ -44,11 +49,13 @@ impl<F: Files> Cells for FileCells<'_, '_, '_, F> {
 
     fn byte(&mut self, a: u64) -> Result<Option<u8>, Failed> {
         match look_up(self.plan, self.size, a) {
-            Some(Shown::File(at)) => {
-                let mut room = [0; 1];
-                self.files.read_at(self.name, at, &mut room)?;
-                Ok(Some(room[0]))
-            }
+            Some(Shown::File(at)) => match self.last.get(at) {
+                Some(byte) => Ok(Some(byte)),
+                None => {
+                    let byte = self.last.read(self.files, self.name, at, self.size)?;
+                    Ok(Some(byte))
+                }
+            },
             Some(Shown::Zero) => Ok(Some(0)),
             None => Ok(None),
         }

@@ -112,7 +112,8 @@ impl Walk {
     fn next<C: Cells>(&self, cells: &mut C) -> Result<Option<Found>, WalkEnd>
         ensures next { Fetches (C.state cells.old) (C.state cells.new)
             (λ memory. next_of memory self.now) result }
-        ensures item { IfOk result (λ o. IfSome o (λ item. (0 < self.now.left) × IsFound self.now.left item)) }
+        ensures item { IfOk result
+            (λ o. IfSome o (λ item. (0 < self.now.left) × IsFound self.now.left item)) }
     {
         let Some(item) = self.find(cells)? else {
             return Ok(None);

@@ -91,6 +91,7 @@ fn ending_in<F: Files>(files: &mut F, plan: &Plan, size: u64, stop: u64) -> Resu
         name: "",
         plan,
         size,
+        last: LastRead::new(),
     };
     Walk::new(BASE, TABLE, Some(stop)).ending(&mut cells)
 }

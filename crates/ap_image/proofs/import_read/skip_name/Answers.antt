@@ -1,8 +1,9 @@
 use Rattle.std.proofs.Common.{◌+◌, ◌<◌, ◌∙◌, ap, arith, Ok}
 use Rattle.std.proofs.lemmas.Bool.{eq-eqb, ne_eqb}
 use Rattle.ap_image.specs.Cells.{CellsState}
-use Rattle.ap_image.specs.ImportWalk.{byte_at, name_at, passed}
+use Rattle.ap_image.specs.ImportWalk.{byte_at, name_at}
 use Rattle.ap_image.proofs.Fetching.{fetch-out}
+use Rattle.ap_image.specs.WalkSteps.{passed}
 use Rattle.ap_image.proofs.ImportNames.{name-ends, name-next, name-none}
 use Rattle.ap_image.proofs.import_read.skip_name.Goals as goal
 

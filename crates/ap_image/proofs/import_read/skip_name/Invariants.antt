@@ -1,6 +1,7 @@
 use Rattle.std.proofs.Common.{◌≡◌, Some, Ok}
 use Rattle.ap_image.specs.Cells.{Memory}
-use Rattle.ap_image.specs.ImportWalk.{passed, name_at}
+use Rattle.ap_image.specs.ImportWalk.{name_at}
+use Rattle.ap_image.specs.WalkSteps.{passed}
 use Rattle.ap_image.proofs.ImportNames.{name_left}
 use Rattle.ap_image.proofs.import_read.skip_name.Given as goal
 
