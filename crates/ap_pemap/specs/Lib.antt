@@ -1,2 +1,3 @@
 pub mod PePlans
 pub mod Laws
+pub mod PeImports
