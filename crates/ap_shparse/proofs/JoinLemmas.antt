@@ -8,7 +8,7 @@ use Rattle.ap_shparse.specs.Places.{Place, behind, newlines, newlines_from, past
 use Rattle.ap_shparse.specs.Commands.{alone, is_nil}
 use Rattle.ap_shparse.specs.Scripts.{Answer, by_turn, left_at, script, script_from, turn}
 use Rattle.ap_shparse.specs.Fronts.{NoneStops, chains, front, front_from}
-use Rattle.ap_shparse.specs.Grammar.{EndsLine, IsLineFront, IsScript, IsStopped, behind_one, seen, to_stop}
+use Rattle.ap_shparse.specs.Grammar.{EndsLine, IsLineFront, IsScript, IsStopped, IsUnstopped, behind_one, seen, to_stop}
 use Rattle.ap_shparse.specs.declared.class.Class.{Class}
 use Rattle.ap_shparse.specs.declared.class.Class.TheVariants.{Blank, Comment}
 use Rattle.ap_shparse.specs.declared.script.Turn.{Turn}
@@ -20,7 +20,7 @@ use Rattle.ap_shparse.proofs.Keeps.{inner}
 use Rattle.ap_shparse.proofs.KeptRuns.{kept_gap}
 use Rattle.ap_shparse.proofs.KeptPlaces.{PKeeps, Some_, place}
 use Rattle.ap_shparse.proofs.KeptLines.{Fits, at_newline, fits, kept_all_lines, kept_newline}
-use Rattle.ap_shparse.proofs.ItemLemmas.{fits_nothing, kept_item, read_whole}
+use Rattle.ap_shparse.proofs.ItemLemmas.{map_nil, fits_nothing, kept_item, read_whole}
 use Rattle.ap_shparse.proofs.GapLemmas.{goes_on}
 use Rattle.ap_shparse.proofs.FrontLemmas.{Items, all_lines, lines_all, stop_on}
 use Rattle.ap_shparse.proofs.GrownLemmas.{grown, grown_item, grown_line, more_lines}
@@ -392,3 +392,73 @@ stop_texts x y ts cs e s =
 
 pub stopped_then : (n : Nul) (a b : Text) (cs : List Chain) → IsStopped n a cs → IsScript n (a ++ b) cs
 stopped_then n a b cs f = ap script (seen-append n a b) ∙ stop_texts (seen n a) (seen n b) f.turns cs f.is_front f.stops
+
+-- ---- a whole front by itself
+
+pub record WholeText (item : Items) (n : ℕ) (ts : List Turn) (p : Place) (us : List Turn) : Type 0 where
+  pub more : List Turn
+  pub is_more : us ≡ ts ++ more
+  pub same : NoneStops more → (m : ℕ) → n ≤ m → (left : ℕ) (found : List Chain) → script_from item m left found p ≡ Ok (found ++ chains more)
+
+stopped_here : (item : Items) (m left : ℕ) (found : List Chain) (p q : Place) → newlines p ≡ Some q → is_nil q.text && not (waits q) ≡ true → script_from item m left found p ≡ Ok found
+unfolding script_from
+stopped_here item zero left found p q is n = ap (λ o. if_eaten o (stop_on left found) (Err left)) is ∙ ap (λ v. if v then Ok found else Err (left_at left q)) n
+stopped_here item (suc j) left found p q is n = ap (λ o. if_eaten o (λ r. by_turn (script_from item j) (left_at left r) found (turn item r)) (Err left)) is ∙ ap (by_turn (script_from item j) (left_at left q) found) (turn_end item q n)
+
+whole_here : (item : Items) (n : ℕ) (ts : List Turn) (p q : Place) (us : List Turn) → newlines p ≡ Some q → AtStop q ts us → WholeText item n ts p us
+whole_here item n ts p q us is s = record {
+  more = [];
+  is_more = sym s.same ∙ sym (append-nil ts);
+  same = λ c m le left found. stopped_here item m left found p q is (ap₂ (λ x y. is_nil x && not (is_some y)) s.no_text s.no_bodies) ∙ ap (λ y. Ok y) (sym (append-nil found));
+}
+
+grown_nothing : (p : Place) → p ≡ grown p []
+grown_nothing p = ap₂ (λ x y. made x y) (sym (append-nil p.text)) (map_nil p.bodies)
+  where
+    made : Text → Option Text → Place
+    made x y = record { text = x; bodies = y }
+
+pub whole_text : (item : Items) → PKeeps item item → (n : ℕ) (ts : List Turn) (p : Place) (us : List Turn) → front_from item n ts p ≡ Some us → WholeText item n ts p us
+whole_text item k zero ts p us e =
+    let o = opened item zero ts p us e in
+    elim (stop_or_item item zero ts o.start us o.is_rest) [
+      | inl s ↦ whole_here item zero ts p o.start us o.is_start s
+      | inr i ↦ absurd (omega (arith, i.is_fuel))
+    ]
+whole_text item k (suc n) ts p us e =
+    let o = opened item (suc n) ts p us e in
+    by_kind o.start o.is_start (stop_or_item item (suc n) ts o.start us o.is_rest) (λ vs s d. whole_text item k n vs s us d)
+  where
+    by_next : (t : Turn) (s : Place) (vs : List Turn) (m l : ℕ) (found : List Chain) → NoneStops (t ∷ vs)
+        → (NoneStops vs → (left : ℕ) (found : List Chain) → script_from item m left found s ≡ Ok (found ++ chains vs)) → by_turn (script_from item m) l found (Some (t, s)) ≡ Ok (found ++ chains (t ∷ vs))
+    by_next turned.End s vs m l found c rec = absurd c
+    by_next (turned.Last x) s vs m l found c rec = absurd c
+    by_next (turned.Next x) s vs m l found c rec = rec c l (found ++ x ∷ []) ∙ ap (λ y. Ok y) (append_assoc found (x ∷ []) (chains vs))
+
+    by_kind : (q : Place) → newlines p ≡ Some q → AtStop q ts us ⊎ AtItem item (suc n) ts q us → ((vs : List Turn) (s : Place) → front_from item n vs s ≡ Some us → WholeText item n vs s us) → WholeText item (suc n) ts p us
+    by_kind q is (inl s) rec = whole_here item (suc n) ts p q us is s
+    by_kind q is (inr i) rec =
+        let f : i.fuel ≡ n = omega (arith, i.is_fuel) in
+        let d = ap (λ x. front_from item x (ts ++ i.turn_is ∷ []) i.next) (sym f) ∙ i.is_rest in
+        let o = opened item n (ts ++ i.turn_is ∷ []) i.next us d in
+        let j = rec (ts ++ i.turn_is ∷ []) i.next d in
+        record {
+          more = i.turn_is ∷ j.more;
+          is_more = j.is_more ∙ append_assoc ts (i.turn_is ∷ []) j.more;
+          same = λ c. elim [
+            | zero ↦ λ le left found. absurd (omega (arith, le))
+            | suc m ↦ λ le left found.
+                let y = grown_item item k p q i.next i.turn_is [] is i.is_item o.uncut in
+                script_next item m left found p y.start i.turn_is i.next (ap newlines (grown_nothing p) ∙ y.is_start) (y.is_turn ∙ ap (λ z. Some (i.turn_is, z)) (sym (grown_nothing i.next)))
+                ∙ by_next i.turn_is i.next j.more m (left_at left y.start) found c (λ h l z. j.same h m (omega (arith, le)) l z)
+          ];
+        }
+
+whole_texts : (x : Text) (ts : List Turn) → front x ≡ Some ts → NoneStops ts → script x ≡ Ok (chains ts)
+unfolding script
+whole_texts x ts e n =
+    let j = whole_text items kept (length x) [] (alone x) ts (from_front x ts e) in
+    j.same (subst NoneStops j.is_more n) (length x) (omega arith) (length x) [] ∙ ap (λ z. Ok (chains z)) (sym j.is_more)
+
+pub unstopped_is : (n : Nul) (a : Text) (cs : List Chain) → IsUnstopped n a cs → IsScript n a cs
+unstopped_is n a cs f = whole_texts (seen n a) f.turns f.is_front f.none_stops ∙ ap (λ z. Ok z) (sym f.value)

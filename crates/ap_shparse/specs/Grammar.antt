@@ -87,3 +87,10 @@ pub record IsStopped (n : Nul) (a : Text) (cs : List Chain) : Type 0 where
   pub turns : List Turn
   pub is_front : front (seen n a) ≡ Some turns
   pub stops : to_stop turns ≡ Some cs
+
+-- a whole front without a stopping command
+pub record IsUnstopped (n : Nul) (a : Text) (cs : List Chain) : Type 0 where
+  pub turns : List Turn
+  pub is_front : front (seen n a) ≡ Some turns
+  pub none_stops : NoneStops turns
+  pub value : cs ≡ chains turns

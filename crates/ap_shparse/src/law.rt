@@ -1,6 +1,6 @@
 //! What holds of the grammar itself.
 ghost use Rattle.std.specs.Prelude.{List, ℕ, ◌++◌, ◌≡◌};
-ghost use Rattle.ap_shparse.specs.Grammar.{IsLineFront, IsScript, IsStopped};
+ghost use Rattle.ap_shparse.specs.Grammar.{IsLineFront, IsScript, IsStopped, IsUnstopped};
 ghost use Rattle.ap_shparse.specs.declared.tree.Chain.{Chain};
 ghost use Rattle.ap_shparse.specs.declared.tree.Nul.{Nul};
 
@@ -15,6 +15,11 @@ pub fn lines_then_text()
 /// is the items as far as the first such command.
 pub fn stopped_fronts_are_scripts()
     ensures { (n : Nul) (a b : List ℕ) (cs : List Chain) → IsStopped n a cs → IsScript n (a ++ b) cs }
+{}
+
+/// A whole front without a stopping command is in the grammar, and its script is its items.
+pub fn whole_fronts_are_scripts()
+    ensures { (n : Nul) (a : List ℕ) (cs : List Chain) → IsUnstopped n a cs → IsScript n a cs }
 {}
 
 /// A text has at most one script.

@@ -22,7 +22,9 @@ mod grammar; // the script of a text
 mod law; // what holds of the grammar itself
 
 pub use grammar::parse;
-pub use law::{lines_then_text, stopped_fronts_are_scripts, texts_have_one_script};
+pub use law::{
+    lines_then_text, stopped_fronts_are_scripts, texts_have_one_script, whole_fronts_are_scripts,
+};
 pub use tree::{
     Assign, Chain, Joined, Node, Nul, Part, Redirection, Script, ShellFault, Simple, Target, Word,
 };
