@@ -1,6 +1,8 @@
 // Small programs linked from files, and from memory. What each link writes is in rows of scripts/rows.txt.
 ghost use Rattle.std.specs.Prelude.{◌≡◌, ◌≢◌, IfSome, option_copied, codes, false};
 
+mod windows;
+
 use ap_check::{Fault, Options, Systems};
 use ap_claims::{Block, Owners};
 use ap_files::MemoryFiles;
