@@ -8,3 +8,4 @@ pub mod SystemNames
 pub mod Showing
 pub mod Dumping
 pub mod ViewCells
+pub mod ReadListings

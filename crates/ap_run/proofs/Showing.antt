@@ -11,7 +11,8 @@ use Rattle.ap_run.specs.declared.end.Cause.{Cause}
 use Rattle.ap_run.specs.declared.end.Cause.TheVariants.{Done, Refused, Unread, Usage, ReadFault, WriteFault, OutFault, NoMemory}
 use Rattle.ap_run.specs.declared.format.Format.{Format}
 use Rattle.ap_run.specs.declared.planned.Planned.{Planned}
-use Rattle.ap_run.specs.Formats.{plan_in, text_of, text_in}
+use Rattle.ap_run.specs.Formats.{plan_in, listing, text_of, text_in}
+use Rattle.ap_run.specs.Listings.{sized_listing, HasListing, IsListed}
 use Rattle.ap_run.specs.FilePlans.{sized_plan_in, IsPlanned, Plans}
 use Rattle.ap_run.specs.Shows.{IsShown, Ends, Printed, Answers, Makes}
 
@@ -19,33 +20,55 @@ by-size : (large : Bool) (f : ReadingFault) (plan : Result Mapping ReadingFault)
 by-size true f plan = refl
 by-size false f plan = refl
 
-text_in-plan : (format : Format) (b : List ℕ) → text_in format b ≡ text_of (sized_plan_in format b)
+text_in-plan : (format : Format) (b : List ℕ) → format.imports ≡ false → text_in format b ≡ text_of (sized_plan_in format b)
 unfolding text_in sized_plan_in
-text_in-plan format b = by-size (nat_lt (2 ^ 30) (length b)) (fault.Large (length b)) (plan_in format b)
+text_in-plan format b plain =
+    ap (λ t. cond (nat_lt (2 ^ 30) (length b)) (Err (fault.Large (length b))) (cond t (listing b) (text_of (plan_in format b)))) plain
+    ∙ by-size (nat_lt (2 ^ 30) (length b)) (fault.Large (length b)) (plan_in format b)
 
-is-shown : (old : FileState) (format : Format) (name : List ℕ) (plan : Result Mapping ReadingFault) (shown : Result (List ℕ) ReadingFault) → IsPlanned old format name plan → text_of plan ≡ shown → IsShown old format name shown
-is-shown old format name plan shown planned is m k = let t = planned m k in (t.0, t.1, text_in-plan format t.0 ∙ ap text_of t.2 ∙ is)
+text_in-listing : (format : Format) (b : List ℕ) → format.imports ≡ true → text_in format b ≡ sized_listing b
+unfolding text_in sized_listing
+text_in-listing format b imports =
+    ap (λ t. cond (nat_lt (2 ^ 30) (length b)) (Err (fault.Large (length b))) (cond t (listing b) (text_of (plan_in format b)))) imports
 
-pub answers-refused : (old new : FileState) (format : Format) (name : List ℕ) (cause : Cause) → Plans old new format name (Err cause) → Answers old new format name (Err cause)
-answers-refused old new format name (Unread f) h = (h.0, is-shown old format name (Err f) (Err f) h.1 refl)
-answers-refused old new format name ReadFault h = h
-answers-refused old new format name Done h = absurd h
-answers-refused old new format name (Refused f) h = absurd h
-answers-refused old new format name Usage h = absurd h
-answers-refused old new format name WriteFault h = absurd h
-answers-refused old new format name OutFault h = absurd h
-answers-refused old new format name NoMemory h = absurd h
+is-shown : (old : FileState) (format : Format) (name : List ℕ) (plan : Result Mapping ReadingFault) (shown : Result (List ℕ) ReadingFault) → format.imports ≡ false → IsPlanned old format name plan → text_of plan ≡ shown → IsShown old format name shown
+is-shown old format name plan shown plain planned is m k = let t = planned m k in (t.0, t.1, text_in-plan format t.0 plain ∙ ap text_of t.2 ∙ is)
 
-pub answers-made : (old new : FileState) (format : Format) (name : List ℕ) (planned : Planned) (r : Result (Vec ℕ Global) Cause) → Plans old new format name (Ok planned) → Makes planned.plan r → Answers old new format name r
-answers-made old new format name planned (Ok text) h m = (h.0, is-shown old format name (Ok planned.plan) (Ok text.items) h.2 (ap (λ (l : List ℕ). Ok l) (sym m)))
-answers-made old new format name planned (Err NoMemory) h m = h.0
-answers-made old new format name planned (Err (Unread f)) h m = absurd m
-answers-made old new format name planned (Err Done) h m = absurd m
-answers-made old new format name planned (Err (Refused f)) h m = absurd m
-answers-made old new format name planned (Err Usage) h m = absurd m
-answers-made old new format name planned (Err ReadFault) h m = absurd m
-answers-made old new format name planned (Err WriteFault) h m = absurd m
-answers-made old new format name planned (Err OutFault) h m = absurd m
+is-listed : (old : FileState) (format : Format) (name : List ℕ) (shown : Result (List ℕ) ReadingFault) → format.imports ≡ true → HasListing old name shown → IsShown old format name shown
+is-listed old format name shown imports listed m k = let t = listed m k in (t.0, t.1, text_in-listing format t.0 imports ∙ t.2)
+
+-- the text with the imports
+pub answers-listed : (old new : FileState) (format : Format) (name : List ℕ) (r : Result (Vec ℕ Global) Cause) → format.imports ≡ true → IsListed old new name r → Answers old new format name r
+answers-listed old new format name (Ok text) imports h = (h.0, is-listed old format name (Ok text.items) imports h.1)
+answers-listed old new format name (Err (Unread f)) imports h = (h.0, is-listed old format name (Err f) imports h.1)
+answers-listed old new format name (Err ReadFault) imports h = h
+answers-listed old new format name (Err NoMemory) imports h = h
+answers-listed old new format name (Err Done) imports h = absurd h
+answers-listed old new format name (Err (Refused f)) imports h = absurd h
+answers-listed old new format name (Err Usage) imports h = absurd h
+answers-listed old new format name (Err WriteFault) imports h = absurd h
+answers-listed old new format name (Err OutFault) imports h = absurd h
+
+pub answers-refused : (old new : FileState) (format : Format) (name : List ℕ) (cause : Cause) → format.imports ≡ false → Plans old new format name (Err cause) → Answers old new format name (Err cause)
+answers-refused old new format name (Unread f) plain h = (h.0, is-shown old format name (Err f) (Err f) plain h.1 refl)
+answers-refused old new format name ReadFault plain h = h
+answers-refused old new format name Done plain h = absurd h
+answers-refused old new format name (Refused f) plain h = absurd h
+answers-refused old new format name Usage plain h = absurd h
+answers-refused old new format name WriteFault plain h = absurd h
+answers-refused old new format name OutFault plain h = absurd h
+answers-refused old new format name NoMemory plain h = absurd h
+
+pub answers-made : (old new : FileState) (format : Format) (name : List ℕ) (planned : Planned) (r : Result (Vec ℕ Global) Cause) → format.imports ≡ false → Plans old new format name (Ok planned) → Makes planned.plan r → Answers old new format name r
+answers-made old new format name planned (Ok text) plain h m = (h.0, is-shown old format name (Ok planned.plan) (Ok text.items) plain h.2 (ap (λ (l : List ℕ). Ok l) (sym m)))
+answers-made old new format name planned (Err NoMemory) plain h m = h.0
+answers-made old new format name planned (Err (Unread f)) plain h m = absurd m
+answers-made old new format name planned (Err Done) plain h m = absurd m
+answers-made old new format name planned (Err (Refused f)) plain h m = absurd m
+answers-made old new format name planned (Err Usage) plain h m = absurd m
+answers-made old new format name planned (Err ReadFault) plain h m = absurd m
+answers-made old new format name planned (Err WriteFault) plain h m = absurd m
+answers-made old new format name planned (Err OutFault) plain h m = absurd m
 
 pub ends-printed : (old new : FileState) (before after : SinkState) (format : Format) (name text : List ℕ) (cause : Cause) → (new ≡ old) × IsShown old format name (Ok text)
     → Printed before after text cause → Ends old new before after format name cause

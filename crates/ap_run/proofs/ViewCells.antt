@@ -1,5 +1,5 @@
 -- The plan of a file, by the format of a command's words, shows what the format's reading says.
-use Rattle.std.proofs.Common.{◌≡◌, ℕ, true, List, [], ◌∷◌, Option, Some, None, Result, Ok, Err, ap, subst, inl, inr, arith}
+use Rattle.std.proofs.Common.{◌≡◌, ℕ, Bool, true, List, [], ◌∷◌, Option, Some, None, Result, Ok, Err, ap, subst, inl, inr, arith}
 use Rattle.std.specs.Prelude.{IfSome, ◌==◌, unwrap_or}
 use Rattle.std.specs.Option.{option_map, option_and_then}
 use Rattle.std.proofs.lemmas.Bool.Decides.{nat_tests}
@@ -29,7 +29,7 @@ use Rattle.ap_run.specs.declared.format.Form.TheVariants.{Ape, Elf, Pe}
 use Rattle.ap_run.specs.declared.format.Format.{Format}
 use Rattle.ap_run.specs.declared.options.Options.{Options}
 use Rattle.ap_run.specs.Formats.{has_page, by_ape, by_elf, by_pe, plan_in, plan_by_form, reading_in, reading_by_form}
-use Rattle.ap_run.specs.Options.{View, Given, no_options, form_of, format_with, format_of, dump_fits, view_of, given_in, view_in}
+use Rattle.ap_run.specs.Options.{View, Given, no_options, form_of, imports_fit, format_with, format_of, dump_fits, view_of, given_in, view_in}
 
 by_ape-plan : (file : List ℕ) (p : Result Mapping ApeFault) (x : Result MemoryImage ApeFault) → IsPlanOf p file x → IsPlanOf (by_ape p) file (by_ape x)
 by_ape-plan file (Ok m) (Ok image) h = h
@@ -70,14 +70,17 @@ some-then : {A B : Type 0} (P : B → Type 0) (f : A → Option B) (o : Option A
 some-then P f None each = tt
 some-then P f (Some x) each = each x
 
-with-page : (form : Form) (machine : Machine) (page : ℕ) → IfSome (format_with form machine page) HasPage
-with-page form machine page = elim (cases_Bool (has_page machine page)) [
-  | inl has ↦ rw has (page-is machine page has)
+with-page : (form : Form) (machine : Machine) (page : ℕ) (imports : Bool) → IfSome (format_with form machine page imports) HasPage
+with-page form machine page imports = elim (cases_Bool (has_page machine page)) [
+  | inl has ↦ elim (cases_Bool (imports_fit form imports)) [
+    | inl fit ↦ rw (has, fit) (page-is machine page has)
+    | inr unfit ↦ rw (has, unfit) tt
+  ]
   | inr hasnt ↦ rw hasnt tt
 ]
 
 format-page : (command : List ℕ) (o : Options) → IfSome (format_of command o) HasPage
-format-page command o = some-then HasPage _ (form_of command o.form) (λ form. with-page form (unwrap_or o.machine X64) (unwrap_or o.page (granule_of (unwrap_or o.machine X64))))
+format-page command o = some-then HasPage _ (form_of command o.form) (λ form. with-page form (unwrap_or o.machine X64) (unwrap_or o.page (granule_of (unwrap_or o.machine X64))) o.imports)
 
 abbrev ViewHasPage : View → Type 0
 ViewHasPage view = HasPage view.format

@@ -1,5 +1,5 @@
 -- The formats that files are read by, and what a file is by a format.
-use Rattle.std.specs.Prelude.{ℕ, ◌^◌, ◌==◌, ◌||◌, nat_lt, if◌then◌else◌, Bool, List, length, Result, Ok, Err}
+use Rattle.std.specs.Prelude.{ℕ, ◌^◌, ◌==◌, ◌||◌, ◌++◌, nat_lt, if◌then◌else◌, Bool, List, length, Result, Ok, Err}
 use Rattle.ap_elf.specs.declared.machine.Machine.{Machine}
 use Rattle.ap_elf.specs.declared.machine.Machine.TheVariants.{X64, A64}
 use Rattle.ap_elf.specs.Machines.{number_of}
@@ -19,6 +19,11 @@ use Rattle.ap_run.specs.declared.format.Form.{Form}
 use Rattle.ap_run.specs.declared.format.Form.TheVariants.{Ape, Elf, Pe}
 use Rattle.ap_run.specs.declared.format.Format.{Format}
 use Rattle.ap_run.specs.PlanTexts.{plan_text}
+use Rattle.ap_image.specs.Imports.{imports_of}
+use Rattle.ap_image.specs.declared.import_step.Ending.{Ending}
+use Rattle.ap_image.specs.declared.import_step.Ending.TheVariants as ends
+use Rattle.ap_pemap.specs.PeImports.{items_in, memory_of}
+use Rattle.ap_run.specs.ImportTexts.{imports_text}
 
 -- the pages of a machine
 abbrev pub has_page : Machine → ℕ → Bool
@@ -69,6 +74,20 @@ abbrev pub text_of : Result Mapping ReadingFault → Result (List ℕ) ReadingFa
 text_of (Ok m) = Ok (plan_text m)
 text_of (Err f) = Err f
 
+-- the text of a PE32+ file's plan and of what it imports
+abbrev pub walked : Ending → List ℕ → Result (List ℕ) ReadingFault
+walked ends.Done text = Ok text
+walked (ends.Fault f) text = Err (fault.Walk f)
+
+abbrev pub listing_by : List ℕ → Result Mapping ReadingFault → Result (List ℕ) ReadingFault
+listing_by file (Ok m) = walked (items_in file).ending (plan_text m ++ imports_text (imports_of (memory_of file) (items_in file)))
+listing_by file (Err f) = Err f
+
+abbrev pub listing : List ℕ → Result (List ℕ) ReadingFault
+listing file = listing_by file (pe_plan_in file)
+
 -- the text that shows a file by a format, or the refusal; a file longer than 2^30 bytes isn't read
 unfoldable pub text_in : Format → List ℕ → Result (List ℕ) ReadingFault
-text_in format file = if nat_lt (2 ^ 30) (length file) then Err (fault.Large (length file)) else text_of (plan_in format file)
+text_in format file =
+    if nat_lt (2 ^ 30) (length file) then Err (fault.Large (length file))
+    else (if format.imports then listing file else text_of (plan_in format file))

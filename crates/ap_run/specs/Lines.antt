@@ -6,11 +6,13 @@ use Rattle.ap_elf.specs.declared.fault.ElfCause.TheVariants as elf
 use Rattle.ap_elf.specs.declared.fault.ElfFault.{ElfFault}
 use Rattle.ap_loader.specs.declared.fault.ApeFault.{ApeFault}
 use Rattle.ap_loader.specs.declared.fault.ApeFault.TheVariants as ape
+use Rattle.ap_image.specs.declared.import_step.WalkCause.{WalkCause}
+use Rattle.ap_image.specs.declared.import_step.WalkCause.TheVariants as walk
 use Rattle.ap_pe.specs.declared.fault.PeCause.{PeCause}
 use Rattle.ap_pe.specs.declared.fault.PeCause.TheVariants as pe
 use Rattle.ap_pe.specs.declared.fault.PeFault.{PeFault}
 use Rattle.ap_run.specs.declared.end.ReadingFault.{ReadingFault}
-use Rattle.ap_run.specs.declared.end.ReadingFault.TheVariants.{Large, Wide, Elf, Ape, Pe}
+use Rattle.ap_run.specs.declared.end.ReadingFault.TheVariants.{Large, Wide, Elf, Ape, Pe, Walk}
 use Rattle.ap_run.specs.declared.end.Cause.{Cause}
 use Rattle.ap_run.specs.declared.end.Cause.TheVariants.{Done, Refused, Unread, Usage, ReadFault, WriteFault, OutFault, NoMemory}
 
@@ -77,12 +79,19 @@ pe_cause_name pe.Entry = codes "Entry"
 abbrev pub pe_line : PeFault → List ℕ
 pe_line f = fault_line (codes "pe") (pe_cause_name f.cause) f.item f.value
 
+abbrev pub walk_cause_name : WalkCause → List ℕ
+walk_cause_name walk.NoCell = codes "NoCell"
+walk_cause_name walk.NoEnd = codes "NoEnd"
+walk_cause_name walk.Long = codes "Long"
+walk_cause_name walk.Many = codes "Many"
+
 abbrev pub reading_line : ReadingFault → List ℕ
 reading_line (Large size) = fault_line (codes "file") (codes "Large") 0 size
 reading_line (Wide total) = fault_line (codes "image") (codes "Wide") 0 total
 reading_line (Elf f) = elf_line f
 reading_line (Ape f) = ape_line f
 reading_line (Pe f) = pe_line f
+reading_line (Walk f) = fault_line (codes "import") (walk_cause_name f.cause) 0 f.at
 
 -- the line of a cause, but for a command that did its work
 abbrev pub line_of : Cause → Option (List ℕ)

@@ -1,6 +1,6 @@
--- The words of a command that shows a file, `load [--machine M] [--page N] [--dump OUT] FILE` or `map --as FORM [--machine M] [--page N] FILE`:
--- options in any order, each with its value behind it, and the file.
-use Rattle.std.specs.Prelude.{ℕ, if◌then◌else◌, ◌&&◌, ◌||◌, not, Bool, true, is_some, is_none, unwrap_or, List, [], ◌∷◌, codes, Option, Some, None}
+-- The words of a command that shows a file, `load [--machine M] [--page N] [--dump OUT] FILE` or `map --as FORM [--machine M] [--page N] [--imports] FILE`:
+-- options in any order, each with its value behind it but for the flag, and the file.
+use Rattle.std.specs.Prelude.{ℕ, if◌then◌else◌, ◌&&◌, ◌||◌, not, Bool, true, false, is_some, is_none, unwrap_or, List, [], ◌∷◌, codes, Option, Some, None}
 use Rattle.std.specs.Option.{option_map, option_and_then}
 use Rattle.std.specs.Str.{bytes_eq}
 use Rattle.ap_elf.specs.declared.machine.Machine.{Machine}
@@ -27,7 +27,7 @@ pub record Given : Type 0 where
   pub file : List ℕ
 
 abbrev pub no_options : Options
-no_options = record { form = None; machine = None; page = None }
+no_options = record { form = None; machine = None; page = None; imports = false }
 
 abbrev pub machine_named : List ℕ → Option Machine
 machine_named name = if bytes_eq name (codes "x86-64") then Some X64 else (if bytes_eq name (codes "aarch64") then Some A64 else None)
@@ -48,6 +48,9 @@ with_machine o value = if is_some o.machine then None else option_map (λ m. rec
 abbrev pub with_page : Options → List ℕ → Option Options
 with_page o value = if is_some o.page then None else option_map (λ p. record o { page = Some p }) (page_named value)
 
+abbrev pub with_imports : Options → Option Options
+with_imports o = if o.imports then None else Some (record o { imports = true })
+
 abbrev pub with_option : Options → List ℕ → List ℕ → Option Options
 with_option o name value =
     if bytes_eq name (codes "--as") then with_form o value
@@ -65,9 +68,9 @@ unfoldable pub given_in : Options → Option (List ℕ) → List (List ℕ) → 
 given_in o dump [] = None
 given_in o dump (file ∷ []) = file_in o dump file
 given_in o dump (name ∷ value ∷ words) =
-    if bytes_eq name (codes "--dump")
-    then option_and_then (λ out. given_in o (Some out) words) (dump_named dump value)
-    else option_and_then (λ p. given_in p dump words) (with_option o name value)
+    if bytes_eq name (codes "--imports") then option_and_then (λ p. given_in p dump (value ∷ words)) (with_imports o)
+    else (if bytes_eq name (codes "--dump") then option_and_then (λ out. given_in o (Some out) words) (dump_named dump value)
+    else option_and_then (λ p. given_in p dump words) (with_option o name value))
 
 -- the form that a command reads
 abbrev pub form_of : List ℕ → Option Form → Option Form
@@ -75,12 +78,19 @@ form_of command named =
     if bytes_eq command (codes "map") then named
     else (if bytes_eq command (codes "load") && is_none named then Some Ape else None)
 
-abbrev pub format_with : Form → Machine → ℕ → Option Format
-format_with form machine page = if has_page machine page then Some (record { form = form; machine = machine; page = page }) else None
+-- imports are those of a PE32+ file
+abbrev pub imports_fit : Form → Bool → Bool
+imports_fit Pe imports = true
+imports_fit Ape imports = not imports
+imports_fit Elf imports = not imports
+
+abbrev pub format_with : Form → Machine → ℕ → Bool → Option Format
+format_with form machine page imports =
+    if has_page machine page && imports_fit form imports then Some (record { form = form; machine = machine; page = page; imports = imports }) else None
 
 abbrev pub format_of : List ℕ → Options → Option Format
 format_of command o =
-    option_and_then (λ form. format_with form (unwrap_or o.machine X64) (unwrap_or o.page (granule_of (unwrap_or o.machine X64)))) (form_of command o.form)
+    option_and_then (λ form. format_with form (unwrap_or o.machine X64) (unwrap_or o.page (granule_of (unwrap_or o.machine X64))) o.imports) (form_of command o.form)
 
 -- `load` dumps to a file that isn't the one that it reads
 abbrev pub dump_fits : List ℕ → Option (List ℕ) → List ℕ → Bool

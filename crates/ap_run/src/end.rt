@@ -8,6 +8,7 @@ use crate::line::line;
 use ap_check::Fault;
 use ap_elf::ElfFault;
 use ap_files::{Sink, print};
+use ap_image::WalkFault;
 use ap_loader::ApeFault;
 use ap_pemap::PeFault;
 
@@ -30,6 +31,8 @@ pub enum ReadingFault {
     Ape(ApeFault),
     /// It has no PE reading.
     Pe(PeFault),
+    /// Its import directory doesn't stand.
+    Walk(WalkFault),
 }
 
 /// Why a run ended.

@@ -32,6 +32,8 @@ pub struct Format {
     pub machine: Machine,
     /// The page size in bytes.
     pub page: u64,
+    /// Whether what the file imports follows its plan. Then the form is PE32+.
+    pub imports: bool,
 }
 
 impl Format {

@@ -14,6 +14,8 @@ mod fetch; // the length of a file
 mod show; // a file that is shown
 mod dump; // the same, with its image file
 mod text; // the text of a plan
+mod listing; // a file that is shown with its imports
+mod import_text; // the text of imports
 
 pub use command::run;
 pub use end::{Cause, End, ReadingFault, end_by};

@@ -2,11 +2,12 @@
 ghost use Rattle.std.specs.Prelude.{◌≡◌, ◌+◌, ◌≤◌, ◌++◌, length, decimal, option_map};
 ghost use Rattle.arrayvec.specs.ArrayVec.{array_vec_len};
 ghost use Rattle.ap_run.specs.Lines as spec;
-ghost use Rattle.ap_run.specs.Lines.{line_of, fault_line, cause_name, pe_cause_name};
+ghost use Rattle.ap_run.specs.Lines.{line_of, fault_line, cause_name, pe_cause_name, walk_cause_name};
 
 use crate::end::{Cause, ReadingFault};
 use ap_check::Fault;
 use ap_elf::{ElfCause, ElfFault};
+use ap_image::WalkCause;
 use ap_loader::ApeFault;
 use ap_pemap::{PeCause, PeFault};
 use arrayvec::ArrayVec;
@@ -65,6 +66,7 @@ fn reading_line(fault: &ReadingFault) -> Line
         ReadingFault::Elf(fault) => elf_line(fault),
         ReadingFault::Ape(fault) => ape_line(fault),
         ReadingFault::Pe(fault) => pe_line(fault),
+        ReadingFault::Walk(fault) => form_line(b"import", walk_name(fault.cause), 0, fault.at),
     }
 }
 
@@ -159,6 +161,19 @@ fn pe_name(cause: PeCause) -> &'static [u8]
         PeCause::ImageSize => b"ImageSize",
         PeCause::Top => b"Top",
         PeCause::Entry => b"Entry",
+    }
+}
+
+// The name of a cause of the import walk.
+fn walk_name(cause: WalkCause) -> &'static [u8]
+    ensures name { result.now ≡ walk_cause_name cause }
+    ensures short { length result.now ≤ 20 }
+{
+    match cause {
+        WalkCause::NoCell => b"NoCell",
+        WalkCause::NoEnd => b"NoEnd",
+        WalkCause::Long => b"Long",
+        WalkCause::Many => b"Many",
     }
 }
 

@@ -16,6 +16,8 @@ pub struct Options {
     pub machine: Option<Machine>,
     /// The page size in bytes.
     pub page: Option<u64>,
+    /// Whether the imports are asked for.
+    pub imports: bool,
 }
 
 /// The file to show, and the format to read it by.
@@ -35,8 +37,8 @@ struct Given<'a> {
     file: &'a str,
 }
 
-/// The view in the words `load [--machine M] [--page N] [--dump OUT] FILE` or `map --as FORM [--machine M] [--page N] FILE`,
-/// whose options stand in any order; any other words are none. FORM is `elf` or `pe`. M is `x86-64`, which it is where it isn't given, or
+/// The view in the words `load [--machine M] [--page N] [--dump OUT] FILE` or `map --as FORM [--machine M] [--page N]
+/// [--imports] FILE`, whose options stand in any order; any other words are none. FORM is `elf` or `pe`, and `--imports` is for `pe` alone. M is `x86-64`, which it is where it isn't given, or
 /// `aarch64`. N is 4096, or 16384 for AArch64; where it isn't given, it is the greatest of the machine. OUT isn't FILE.
 pub fn read_view(words: &[String]) -> Option<View<'_>>
     ensures page { IfSome result (λ v. IsPage v.format.machine v.format.page) }
@@ -87,6 +89,7 @@ const NO_OPTIONS: Options = Options {
     form: None,
     machine: None,
     page: None,
+    imports: false,
 };
 
 // The options in the words behind others, and the file.
@@ -99,6 +102,10 @@ fn read_given<'a>(options: Options, dump: Option<&'a str>, words: &'a [String]) 
     match words {
         [] => None,
         [file] => read_file(options, dump, file.as_str()),
+        [word, _, ..] if word.as_str() == "--imports" => {
+            let options = with_imports(options)?;
+            read_given(options, dump, &words[1..])
+        }
         [name, value, rest @ ..] if name.as_str() == "--dump" => {
             let dump = dump_named(dump, value.as_str())?;
             read_given(options, Some(dump), rest)
@@ -145,14 +152,25 @@ fn format_of(command: &str, options: Options) -> Option<Format>
     let form = form_of(command, options.form)?;
     let machine = options.machine.unwrap_or(Machine::X64);
     let page = options.page.unwrap_or(machine.granule());
-    if has_page(machine, page) {
+    if has_page(machine, page) && imports_fit(form, options.imports) {
         Some(Format {
             form,
             machine,
             page,
+            imports: options.imports,
         })
     } else {
         None
+    }
+}
+
+// Whether a form has imports, where these are asked for.
+fn imports_fit(form: Form, imports: bool) -> bool
+    ensures { result ≡ spec.imports_fit form imports }
+{
+    match form {
+        Form::Pe => true,
+        Form::Ape | Form::Elf => !imports,
     }
 }
 
@@ -182,6 +200,19 @@ fn with_option(options: Options, name: &str, value: &str) -> Option<Options>
         with_page(options, value)
     } else {
         None
+    }
+}
+
+fn with_imports(options: Options) -> Option<Options>
+    ensures { result ≡ spec.with_imports options }
+{
+    if options.imports {
+        None
+    } else {
+        Some(Options {
+            imports: true,
+            ..options
+        })
     }
 }
 

@@ -4,13 +4,14 @@ ghost use Rattle.ap_run.specs.Shows.{Answers, Ends, Makes, Printed};
 
 use crate::end::Cause;
 use crate::format::Format;
+use crate::listing::listing_of;
 use crate::planned::plan_of;
 use crate::text::plan_text;
 use ap_files::{Files, Sink, print};
 use ap_image::Plan;
 use std::alloc::Global;
 
-/// Prints the plan of a file by a format on `out`, and answers how that ended.
+/// Prints the plan of a file by a format on `out`, with its imports where the format has them, and answers how that ended.
 pub fn show<F: Files, O: Sink>(
     alloc: Global,
     files: &mut F,
@@ -37,7 +38,7 @@ pub fn print_text<O: Sink>(out: &mut O, text: &[u8]) -> Cause
     }
 }
 
-// The text of a file's plan, or why there is none.
+// The text of a file by a format, or why there is none.
 fn text_of<F: Files>(
     alloc: Global,
     files: &mut F,
@@ -47,6 +48,9 @@ fn text_of<F: Files>(
     requires { IsPage format.now.machine format.now.page }
     ensures { Answers (F.state files.old) (F.state files.new) format.now name.now result }
 {
+    if format.imports {
+        return listing_of(alloc, files, name);
+    }
     match plan_of(files, format, name) {
         Ok(planned) => made_of(alloc, &planned.plan),
         Err(cause) => Err(cause),

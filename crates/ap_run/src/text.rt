@@ -75,7 +75,7 @@ fn right(bits: u8, letter: u8) -> u8
 }
 
 #[tactic(auto, unfolding(crate::specs::PlanTexts::hex_of))]
-fn push_hex(text: &mut Vec<u8>, number: u64) -> Result<(), AllocError>
+pub fn push_hex(text: &mut Vec<u8>, number: u64) -> Result<(), AllocError>
     ensures { OnOk result (text.new.items ≡ text.old.items ++ hex_of number) }
 {
     push_digits(text, number, 16)

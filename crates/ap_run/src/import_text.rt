@@ -1,0 +1,73 @@
+// The text of what a PE32+ file imports.
+ghost use Rattle.std.specs.Prelude.{◌≡◌, ◌++◌, OnOk};
+ghost use Rattle.ap_run.specs.ImportTexts.{import_line, imports_text, name_text, shown_byte, wanted_text};
+
+use crate::text::push_hex;
+use ap_image::{Import, Wanted};
+use itoa::Buffer;
+use std::alloc::AllocError;
+
+/// Appends a line for each import: the DLL's name, what is imported of it, and the address of its slot in 16 hexadecimal digits.
+/// Of names a byte that isn't printed, and a backslash, is a backslash and three octal digits.
+#[tactic(auto, using(std::proofs::Common::append_assoc))]
+pub fn push_imports(text: &mut Vec<u8>, imports: &[Import]) -> Result<(), AllocError>
+    ensures { OnOk result (text.new.items ≡ text.old.items ++ imports_text imports.now) }
+{
+    for import in imports {
+        push_import(text, import)?;
+    }
+    Ok(())
+}
+
+#[tactic(auto, using(std::proofs::Common::append_assoc), unfolding(crate::specs::ImportTexts::import_line))]
+fn push_import(text: &mut Vec<u8>, import: &Import) -> Result<(), AllocError>
+    ensures { OnOk result (text.new.items ≡ text.old.items ++ import_line import.now) }
+{
+    text.extend_from_slice(b"import ")?;
+    push_name(text, import.dll.as_slice())?;
+    text.extend_from_slice(b" ")?;
+    push_wanted(text, &import.what)?;
+    text.extend_from_slice(b" ")?;
+    push_hex(text, import.slot)?;
+    text.extend_from_slice(b"\n")
+}
+
+#[tactic(auto, using(std::proofs::Common::append_assoc))]
+fn push_wanted(text: &mut Vec<u8>, what: &Wanted) -> Result<(), AllocError>
+    ensures { OnOk result (text.new.items ≡ text.old.items ++ wanted_text what.now) }
+{
+    match what {
+        Wanted::Name { name } => push_name(text, name.as_slice()),
+        Wanted::Ordinal { number } => {
+            let mut buffer = Buffer::new();
+            text.extend_from_slice(b"#")?;
+            text.extend_from_slice(buffer.format(*number as u64).as_bytes())
+        }
+    }
+}
+
+#[tactic(auto, using(std::proofs::Common::append_assoc))]
+fn push_name(text: &mut Vec<u8>, name: &[u8]) -> Result<(), AllocError>
+    ensures { OnOk result (text.new.items ≡ text.old.items ++ name_text name.now) }
+{
+    for byte in name {
+        push_byte(text, *byte)?;
+    }
+    Ok(())
+}
+
+#[tactic(auto, unfolding(crate::specs::ImportTexts::shown_byte))]
+fn push_byte(text: &mut Vec<u8>, byte: u8) -> Result<(), AllocError>
+    ensures { OnOk result (text.new.items ≡ text.old.items ++ shown_byte byte) }
+{
+    if byte.is_ascii_graphic() && byte != b'\\' {
+        return text.extend_from_slice(&[byte]);
+    }
+    let digits = [
+        b'\\',
+        b'0' + byte / 64,
+        b'0' + byte / 8 % 8,
+        b'0' + byte % 8,
+    ];
+    text.extend_from_slice(&digits)
+}

@@ -1,0 +1,56 @@
+// What PE32+ files import, behind their plans.
+ghost use Rattle.std.specs.Prelude.{◌≡◌, ◌++◌, IfOk};
+ghost use Rattle.ap_run.specs.Listings.{IsListing, IsListed};
+ghost use Rattle.ap_run.specs.ImportTexts.{imports_text};
+ghost use Rattle.ap_run.specs.PlanTexts as spec;
+
+use crate::end::{Cause, ReadingFault};
+use crate::fetch::measure;
+use crate::import_text::push_imports;
+use crate::text::plan_text;
+use ap_files::{Files, ReadAllFault, read_all};
+use ap_image::{Import, Plan, Reading};
+use ap_pemap::{ImportFault, PeReading, imports};
+use std::alloc::{AllocError, Global};
+
+/// The text of the plan and the imports of a file, or why there is none. The file is read whole.
+pub fn listing_of<F: Files>(alloc: Global, files: &mut F, name: &str) -> Result<Vec<u8>, Cause>
+    ensures { IsListed (F.state files.old) (F.state files.new) name.now result }
+{
+    let size = match measure(files, name) {
+        Ok(size) => size,
+        Err(cause) => return Err(cause),
+    };
+    match read_all(alloc, files, name, size as usize) {
+        Ok(file) => listed(alloc, &file),
+        Err(ReadAllFault::NoMemory) => Err(Cause::NoMemory),
+        Err(ReadAllFault::Read) => Err(Cause::ReadFault),
+    }
+}
+
+// That of a file's bytes.
+fn listed(alloc: Global, file: &[u8]) -> Result<Vec<u8>, Cause>
+    ensures { IsListing file.now result }
+{
+    let plan = match PeReading.read(file) {
+        Ok(plan) => plan,
+        Err(fault) => return Err(Cause::Unread(ReadingFault::Pe(fault))),
+    };
+    let found = match imports(alloc, file, &plan) {
+        Ok(found) => found,
+        Err(ImportFault::Walk(fault)) => return Err(Cause::Unread(ReadingFault::Walk(fault))),
+        Err(ImportFault::NoMemory) => return Err(Cause::NoMemory),
+    };
+    match text_with(alloc, &plan, &found) {
+        Ok(text) => Ok(text),
+        Err(_) => Err(Cause::NoMemory),
+    }
+}
+
+fn text_with(alloc: Global, plan: &Plan, found: &[Import]) -> Result<Vec<u8>, AllocError>
+    ensures { IfOk result (λ text. text.items ≡ spec.plan_text plan.now ++ imports_text found.now) }
+{
+    let mut text = plan_text(alloc, plan)?;
+    push_imports(&mut text, found)?;
+    Ok(text)
+}
