@@ -1,8 +1,8 @@
 """What python3-pefile sees in Windows files, for scripts/windows.sh.
 
-windows.py told FILE            what the file is, in the lines of scripts/windows.sh
-windows.py slots FILE           where Windows writes the address of each function
-windows.py memory APETOOL FILE..  whether `map --as pe` prints the same entry, bytes and permissions as pefile maps
+windows.py told FILE               what the file is, in the lines of scripts/windows.sh
+windows.py imports FILE..          its imports, with the place where Windows writes the address of each
+windows.py memory APETOOL FILE..   whether `map --as pe` prints the same entry, bytes and permissions as pefile maps
 """
 
 import subprocess
@@ -28,9 +28,17 @@ def entry_of(file):
 
 
 def imports_of(file):
-    for library in file.DIRECTORY_ENTRY_IMPORT:
+    for library in getattr(file, "DIRECTORY_ENTRY_IMPORT", []):
         for function in library.imports:
-            yield library.dll.decode(), function.name.decode(), function.address
+            name = f"#{function.ordinal}" if function.import_by_ordinal else function.name.decode()
+            yield f"import {library.dll.decode()} {name}", function.address
+
+
+def tell_imports(name):
+    file = pefile.PE(name, fast_load=True)
+    file.parse_data_directories([pefile.DIRECTORY_ENTRY["IMAGE_DIRECTORY_ENTRY_IMPORT"]])
+    for line, slot in imports_of(file):
+        print(f"{line} {slot:016x}")
 
 
 def tell(file):
@@ -38,8 +46,8 @@ def tell(file):
     print(f"base {file.OPTIONAL_HEADER.ImageBase:016x}")
     for start, rights in sections_of(file):
         print(f"section {start:016x} {rights}")
-    for library, name, _ in imports_of(file):
-        print("import", library, name)
+    for line, _ in imports_of(file):
+        print(line)
 
 
 def is_same_memory(apetool, name):
@@ -71,9 +79,9 @@ def main():
     command, name, *others = sys.argv[1:]
     if command == "told":
         tell(pefile.PE(name))
-    elif command == "slots":
-        for _, function, slot in imports_of(pefile.PE(name)):
-            print(f"{slot:016x} {function}")
+    elif command == "imports":
+        for other in [name, *others]:
+            tell_imports(other)
     else:
         differ = [other for other in others if not is_same_memory(name, other)]
         for other in differ:

@@ -36,17 +36,17 @@ told_by_program() {
         printf 'section %016x %s\n' $((address & -4096)) "$rights"
         end=$(((address + size + 4095) & -4096))
     done < <(readelf -lW "$program" | awk '$1 == "LOAD" { print $3, $6, $7 $8 }')
-    slots_of_program | sed 's/.* /import KERNEL32.dll /'
+    imports_of_program | sed 's/ [^ ]*$//'
 }
 
 address_of() { # SYMBOL
     nm "$program" | sed -n "s/ . $1\$//p"
 }
 
-# The words that Windows fills, by the names that imports.S gives them.
-slots_of_program() {
+# The functions of kernel32, each with the place of its address, by the names that imports.S gives these places.
+imports_of_program() {
     nm "$program" | sort | awk -v from="x$(address_of ape_iat)" -v to="x$(address_of ape_iat_end)" \
-        '"x" $1 >= from && "x" $1 < to && $3 != "ape_iat" { print $1, $3 }'
+        '"x" $1 >= from && "x" $1 < to && $3 != "ape_iat" { print "import KERNEL32.dll", $3, $1 }'
 }
 
 told_by_map() { # FILE
@@ -100,13 +100,33 @@ check_tools() { # WHAT FILE
         check "$1: $tool tells what the program does" tells "$tool" "$2"
     done
     [ -n "$python" ] || return
-    check "$1: pefile finds the words of the functions where the program has them" finds_slots "$2"
+    check "$1: pefile finds the places of the imports where the program has them" finds_imports "$2"
     check "$1: pefile maps what map --as pe prints" maps_alike "$2"
 }
 
-finds_slots() { # FILE
-    "$python" "$root/scripts/windows.py" slots "$1" | sort >"$work/told"
-    slots_of_program | sort | cmp - "$work/told" && [ -s "$work/told" ]
+finds_imports() { # FILE
+    imports_of_program >"$work/wanted"
+    [ -s "$work/wanted" ] && "$python" "$root/scripts/windows.py" imports "$1" | cmp - "$work/wanted"
+}
+
+# Whether `map` has the option that prints imports. It takes it for a fault of usage where it hasn't.
+begin_imports() {
+    "$apetool" map --as pe --imports "$file" >"$work/told" 2>"$work/said"
+    if [ $? = 2 ]; then imports=none && skip 'imports by map' "map --as pe --imports isn't built"; else imports=printed; fi
+}
+
+check_imports() { # WHAT FILE..
+    if [ -z "$python" ] || [ "$imports" = none ]; then return; fi
+    check "$1: map --as pe --imports prints the imports that pefile finds" imports_alike "${@:2}"
+}
+
+imports_alike() { # FILE..
+    local other
+    "$python" "$root/scripts/windows.py" imports "$@" >"$work/wanted"
+    for other; do
+        "$apetool" map --as pe --imports "$other" | grep '^import '
+    done >"$work/told"
+    [ -s "$work/wanted" ] && cmp "$work/told" "$work/wanted"
 }
 
 maps_alike() { # FILE..
@@ -159,12 +179,14 @@ ends_full() { # FILE
 
 check_linked() { # WHAT FILE
     check_tools "$@"
+    check_imports "$@"
     check_wine "$@"
     check "$1: each shell runs it as the program" same_in_shells "$program" "$2"
 }
 
 check_example() {
     check 'the example is linked' link_for linux,windows "$file" "$program"
+    begin_imports
     check_linked 'the example' "$file"
     check 'the example is linked for Windows alone' link_for windows "$work/alone" "$program"
     check_tools 'for Windows alone' "$work/alone"
@@ -219,7 +241,22 @@ check_linkers() {
         check "$linker: each shell runs it as the program" same_in_shells "$work/other" "$work/both"
         check_wine "$linker" "$work/both"
     done
+    check_stack
     check_refused
+}
+
+# The stack that Windows gives the program is the one asked for, or 8 MiB.
+check_stack() {
+    "${example[@]}" -o "$work/other" -Wl,-z,stack-size=0x240000
+    check 'a stack size is asked for: it is linked' link_for linux,windows "$work/both" "$work/other"
+    check_wine 'a stack size is asked for' "$work/both"
+    [[ ${tools[*]} == *objdump* ]] || return 0
+    check 'a stack size is asked for: objdump tells it' has_stack 240000 "$work/both"
+    check 'no stack size is asked for: objdump tells 8 MiB' has_stack 800000 "$file"
+}
+
+has_stack() { # HEXADECIMAL FILE
+    [ "$(objdump -p "$2" | awk '$1 == "SizeOfStackReserve" { print $2 }')" = "$(printf '%016x' $((0x$1)))" ]
 }
 
 # What is refused of the example, made with other flags of the linker.
@@ -262,6 +299,7 @@ check_others() {
 check_other() { # WHAT FILE..
     if [[ ${tools[*]} == *objdump* ]]; then check "$1: map --as pe tells the entry and the sections that objdump tells" tell_alike "${@:2}"; fi
     if [ -n "$python" ]; then check "$1: pefile maps what map --as pe prints" maps_alike "${@:2}"; fi
+    check_imports "$@"
 }
 
 # Entry, and the address, the permissions and the place in the file of each section. objdump tells 0 as the entry of a library
@@ -283,24 +321,27 @@ tell_alike() { # FILE..
     done
 }
 
-# What `strip` does to a file that was linked.
+# What tools leave of a linked file that take it for one of Windows and write it anew.
 check_strip() {
-    is_there strip || { skip 'strip' 'it is missing' && return; }
-    cp "$file" "$work/stripped"
-    strip "$work/stripped" 2>"$work/said" || { skip 'strip of a linked file' "$(head -n 1 "$work/said")" && return; }
-    check 'strip takes the linked file, and cuts it' [ "$(stat -c %s "$work/stripped")" -lt "$(stat -c %s "$file")" ]
-    check 'what strip leaves has no script: sh runs nothing' is_no_script "$work/stripped"
-    check 'and no program of Linux for an APE loader' is_no_ape "$work/stripped"
-    [ ${#wine[@]} = 0 ] ||
-        check 'and wine runs it still' is_same "$program" "${wine[@]}" "$work/stripped" "${words[@]}"
+    local tool
+    for tool in strip llvm-strip objcopy; do
+        is_there $tool || { skip "$tool" 'it is missing' && continue; }
+        cp "$file" "$work/stripped"
+        $tool "$work/stripped" 2>"$work/said" || { skip "$tool" "$(head -n 1 "$work/said")" && continue; }
+        check "$tool takes the linked file and cuts it" [ "$(stat -c %s "$work/stripped")" -lt "$(stat -c %s "$file")" ]
+        check "$tool: sh starts nothing of what it leaves" starts_nothing "$work/stripped"
+        check "$tool: an APE loader finds no program in it" finds_none "$work/stripped"
+        [ ${#wine[@]} = 0 ] ||
+            check "$tool: wine runs it still" is_same "$program" "${wine[@]}" "$work/stripped" "${words[@]}"
+    done
 }
 
-is_no_script() { # FILE
+starts_nothing() { # FILE
     run sh "$1" one
     [ "$status" != 0 ] && [ ! -s "$work/printed" ] && [ ! -e "$work/tmp/$copy" ]
 }
 
-is_no_ape() { # FILE
+finds_none() { # FILE
     ! "$apetool" load "$1" >"$work/told" 2>"$work/said"
 }
 
