@@ -168,8 +168,15 @@ begin_wine() {
 check_wine() { # WHAT FILE
     [ ${#wine[@]} != 0 ] || return
     check "$1: wine runs it as Linux runs the program" is_same "$program" "${wine[@]}" "$2" "${words[@]}"
-    check "$1: without arguments wine ends with 0" ends 0 "${wine[@]}" "$2"
+    check "$1: without arguments wine ends with 0" ends_in_wine "$2"
     [ ! -c /dev/full ] || check "$1: a write that fails ends it with 255" ends_full "$2"
+}
+
+ends_in_wine() { # FILE
+    ends 0 "${wine[@]}" "$1" || {
+        echo "    status $status, $(head -c 200 "$work/printed") $(head -c 200 "$work/errors")"
+        return 1
+    }
 }
 
 ends_full() { # FILE
@@ -259,17 +266,24 @@ has_stack() { # HEXADECIMAL FILE
     [ "$(objdump -p "$2" | awk '$1 == "SizeOfStackReserve" { print $2 }')" = "$(printf '%016x' $((0x$1)))" ]
 }
 
-# What is refused of the example, made with other flags of the linker.
+# What is refused of the example, made or changed by other words. Each is linked for Linux alone.
 check_refused() {
-    check 'gcc -s: rule 25' is_refused 'rule 25 input 1 item 0 value 0' -s
-    check 'text at 0x3f1000: rule 26' is_refused 'rule 26 input 1 item 0 value 4128768' -Wl,-Ttext-segment=0x3f1000
-    check 'for Linux alone it is linked' link_for linux "$work/none" "$work/other"
+    local base=$((0x$(address_of ape_image_base))) end=$((0x$(address_of ape_idata) + 20))
+    check 'gcc -s: rule 25' is_refused 'rule 25 input 1 item 0 value 0' "${example[@]}" -s -o "$work/other"
+    check 'text at 0x3f1000: rule 26' is_refused "rule 26 input 1 item 0 value $base" \
+        "${example[@]}" -Wl,-Ttext-segment=0x3f1000 -o "$work/other"
+    is_there objcopy || { skip 'rules 27 and 28' 'there is no objcopy' && return; }
+    check 'no symbol ape_iat: rule 27' is_refused 'rule 27 input 1 item 0 value 3' \
+        objcopy --strip-symbol=ape_iat "$program" "$work/other"
+    check 'no last entry of zeros: rule 28' is_refused "rule 28 input 1 item 4 value $end" \
+        objcopy --strip-symbol=ape_idata_end --add-symbol=ape_idata_end=.data:20,global "$program" "$work/other"
 }
 
-is_refused() { # LINE FLAG
-    rm -f "$work/none"
-    "${example[@]}" -o "$work/other" "$2" && ! link_for linux,windows "$work/none" "$work/other" 2>"$work/said" &&
-        [ "$(cat "$work/said")" = "apetool: $1" ] && [ ! -e "$work/none" ]
+is_refused() { # LINE COMMAND.. (which makes $work/other)
+    rm -f "$work/none" "$work/other"
+    "${@:2}" && ! link_for linux,windows "$work/none" "$work/other" 2>"$work/said" &&
+        [ "$(cat "$work/said")" = "apetool: $1" ] && [ ! -e "$work/none" ] &&
+        link_for linux "$work/none" "$work/other"
 }
 
 # A program that has a C library on Linux, and none on Windows.
@@ -336,9 +350,10 @@ check_strip() {
     done
 }
 
+# Its status may be any, as a shell may take all of it for a here-document.
 starts_nothing() { # FILE
     run sh "$1" one
-    [ "$status" != 0 ] && [ ! -s "$work/printed" ] && [ ! -e "$work/tmp/$copy" ]
+    [ ! -s "$work/printed" ] && [ ! -e "$work/tmp/$copy" ]
 }
 
 finds_none() { # FILE
