@@ -155,9 +155,12 @@ begin_wine() {
     mkdir "$work/home"
     export WINEPREFIX=$work/prefix WINEDEBUG=-all WINEDLLOVERRIDES='mscoree=;mshtml=;winemenubuilder.exe='
     # The server of wine writes into its folder a little longer than it tells.
-    trap 'timeout 30 wineserver -w || wineserver -k; sleep 1; rm -rf "$work"' EXIT
+    trap 'wineserver -k; sleep 1; rm -rf "$work"' EXIT
     wine=(env HOME="$work/home" timeout 300 wine)
     if "${wine[@]}" cmd /c 'echo begun' >"$work/told" 2>"$work/said" && grep -q '^begun' "$work/told"; then
+        # What sets up the folder may still run. Then one server stays for all programs.
+        timeout 60 wineserver -w
+        wineserver -p
         echo "with: $(wine --version)"
     else
         skip 'wine' "it doesn't start: $(head -n 1 "$work/said" | head -c 100)"
