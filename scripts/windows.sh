@@ -198,6 +198,7 @@ check_example() {
     check 'the example is linked' link_for linux,windows "$file" "$program"
     begin_imports
     check_linked 'the example' "$file"
+    check 'the choice of Windows changes nothing behind the block' same_behind_block
     check 'the example is linked for Windows alone' link_for windows "$work/alone" "$program"
     check_tools 'for Windows alone' "$work/alone"
     check_wine 'for Windows alone' "$work/alone"
@@ -211,6 +212,11 @@ check_example() {
     check_both
 }
 
+same_behind_block() {
+    link_for linux "$work/none" "$program" && cmp -i 16384 "$file" "$work/none" &&
+        [ "$("$apetool" load "$file")" = "$("$apetool" load "$work/none")" ]
+}
+
 # The file begins as Windows wants it, which mksh takes for a format that it can't run.
 check_names() {
     local shell command
@@ -221,7 +227,7 @@ check_names() {
         elif is_same "$program" mksh -c '"$0" "$@"' "$file" "${words[@]}"; then
             skip "mksh doesn't start the file by its name" 'here it does'
         else
-            check "mksh doesn't start the file by its name: $(head -c 80 "$work/errors")" [ ! -s "$work/printed" ]
+            check "mksh doesn't start the file by its name: $(tail -c 35 "$work/errors")" [ ! -s "$work/printed" ]
             check 'mksh starts it as sh FILE' is_same "$program" mksh -c 'sh "$0" "$@"' "$file" "${words[@]}"
         fi
     done
@@ -252,6 +258,7 @@ check_linkers() {
         check_wine "$linker" "$work/both"
     done
     check_stack
+    check_base
     check_refused
 }
 
@@ -267,6 +274,19 @@ check_stack() {
 
 has_stack() { # HEXADECIMAL FILE
     [ "$(objdump -p "$2" | awk '$1 == "SizeOfStackReserve" { print $2 }')" = "$(printf '%016x' $((0x$1)))" ]
+}
+
+# Where the program doesn't say where its image is, which it may where it imports nothing.
+check_base() {
+    [[ ${tools[*]} == *objdump* ]] && is_there objcopy || return 0
+    "${example[@]}" -Wl,-Ttext-segment=0x411000 -o "$work/other"
+    objcopy -N ape_image_base -N ape_idata -N ape_idata_end -N ape_iat -N ape_iat_end "$work/other"
+    check 'no ape_image_base: it is linked' link_for windows "$work/none" "$work/other"
+    check 'no ape_image_base: objdump tells 0x400000 for text at 0x411000' has_base 400000 "$work/none"
+}
+
+has_base() { # HEXADECIMAL FILE
+    [ "$(objdump -p "$2" | awk '$1 == "ImageBase" { print $2 }')" = "$(printf '%016x' $((0x$1)))" ]
 }
 
 # What is refused of the example, made or changed by other words. Each is linked for Linux alone.
