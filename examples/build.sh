@@ -1,11 +1,12 @@
 #!/bin/sh
 # Builds an example into the file OUT, on x86-64 Linux: a static ELF program for one machine.
-# hello is of the machine's assembler and uses no library; threads is threads.c with the start stub start.S.
-# Usage: examples/build.sh hello|threads x86-64|aarch64 OUT
+# hello is of the machine's assembler and uses no library; threads is threads.c with the start stub start.S; windows is hello
+# with what it does on Windows, windows.c and imports.S, and is for x86-64 alone.
+# Usage: examples/build.sh hello|threads|windows x86-64|aarch64 OUT
 set -eu
 
 usage() {
-    echo 'usage: examples/build.sh hello|threads x86-64|aarch64 OUT' >&2
+    echo 'usage: examples/build.sh hello|threads|windows x86-64|aarch64 OUT' >&2
     exit 2
 }
 
@@ -27,6 +28,12 @@ aarch64) prefix=aarch64-linux-gnu- package=-aarch64-linux-gnu source=$here/hello
 esac
 
 case $1 in
+windows)
+    [ "$2" = x86-64 ] || usage
+    need gcc gcc
+    gcc -O -static -nostdlib -ffreestanding -fno-stack-protector -mno-red-zone -Wl,-z,noexecstack \
+        -o "$out" "$source" "$here/windows.c" "$here/imports.S"
+    ;;
 threads)
     need "${prefix}gcc" "gcc$package"
     "${prefix}gcc" -O2 -static -pthread -o "$out" "$here/threads.c" "$here/start.S" -Wl,-e,ape_start

@@ -1,6 +1,7 @@
 #!/bin/sh
 # Builds the examples into the folder OUT and links each by apetool into one file for Linux: for x86-64, and for AArch64
-# too where the cross tools are there. Usage: examples/link.sh APETOOL OUT
+# too where the cross tools are there. The example windows is linked for Windows besides, with hello for AArch64.
+# Usage: examples/link.sh APETOOL OUT
 set -eu
 
 [ $# = 2 ] || {
@@ -23,3 +24,9 @@ for example in hello threads; do
     "$apetool" link --systems linux -o "$out/$example" "$@"
     echo "$out/$example: $*"
 done
+
+"$here/build.sh" windows x86-64 "$out/windows.x64"
+set -- "$out/windows.x64"
+[ ! -f "$out/hello.a64" ] || set -- "$@" "$out/hello.a64"
+"$apetool" link --systems linux,windows -o "$out/windows" "$@"
+echo "$out/windows: $*"

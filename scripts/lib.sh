@@ -51,6 +51,13 @@ link() { # OUT IN
     "$apetool" link --systems linux -o "$1" "$2"
 }
 
+# Sets $took to the microseconds that a command takes, and fails as it does. The clock is that of bash 5.
+time_of() { # COMMAND..
+    local begun=${EPOCHREALTIME/./}
+    "$@" || return 1
+    took=$((${EPOCHREALTIME/./} - begun))
+}
+
 # A number in so many bytes, the lowest first.
 number() { # BYTES VALUE
     local i text='' value=$2

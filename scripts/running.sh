@@ -15,7 +15,8 @@ run() { # COMMAND..
         (
             if [ "$tmp" = none ]; then unset TMPDIR; else export TMPDIR=$tmp; fi
             export GREETING='good day'
-            exec "$@"
+            [ "$(type -t "$1")" = function ] || exec "$@"
+            "$@"
         ) <"$work/lines" >"$work/printed" 2>"$work/errors" &
         copy=ape.$!
         wait "$!"

@@ -13,13 +13,6 @@ symbols_bound=130
 loaded=500000000
 load_bound=200
 
-# Sets $took to the microseconds that a command takes, and fails as it does.
-time_of() { # COMMAND..
-    local begun=${EPOCHREALTIME/./}
-    "$@" || return 1
-    took=$((${EPOCHREALTIME/./} - begun))
-}
-
 # The same commands in turns, each on a new output, with the least times.
 measure() {
     local turn
