@@ -20,5 +20,5 @@ pub record Ends (nul : Nul) (text : Text) (env : Env) (old : Host) (outcome : Ou
 -- what a run answers, and the host after it; after want of memory nothing is said of the host
 abbrev pub Runs : Nul → Text → Env → Host → Result Outcome ShellFault → Host → Type 0
 Runs nul text env old (Ok outcome) new = Ends nul text env old outcome new
-Runs nul text env old (Err (fault.Outside at)) new = IsOutside nul text (fault.Outside at) × (new ≡ old)
+Runs nul text env old (Err (fault.Outside at)) new = IsOutside nul text at × (new ≡ old)
 Runs nul text env old (Err fault.NoMemory) new = Unit {0}
