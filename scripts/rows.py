@@ -98,6 +98,9 @@ class Rows:
             count = int.from_bytes(made[56:58], "little")
             put(made, 64 + 56 * count, header(numbers))
             put(made, 56, (count + 1).to_bytes(2, "little"))
+        elif found := re.fullmatch(r"numbers @(\S+) = (\S+) (\S+)", text):
+            at, count, value = [number(word) for word in found.groups()]
+            put(made, at, value.to_bytes(8, "little") * count)
         elif found := re.fullmatch(r"stairs (\S+) (\S+) (\S+) (\S+)", text):
             count, address, step, size = [number(word) for word in found.groups()]
             for i in range(count):
