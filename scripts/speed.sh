@@ -1,8 +1,8 @@
 #!/usr/bin/env bash
 # Measures how long the program takes, each the best of five runs that take turns: a link of 100 MB against cp of the same
-# bytes; a link of a program of 100,000 symbols against one of the same program stripped; and a load of a file of 500 MB
-# against cat of it. A load may take 2 times as long as cat. Where STRICT is set a link may take 2.5 times as long as cp,
-# and one with symbols 1.3 times as long as one without. Usage: scripts/speed.sh [APETOOL]
+# bytes; a link of a program of 100,000 symbols against one of the same program stripped, and against one for Windows too; and
+# a load of a file of 500 MB against cat of it. A load may take 2 times as long as cat. Where STRICT is set a link may take 2.5
+# times as long as cp, and one with symbols, or for Windows, 1.3 times as long as one without. Usage: scripts/speed.sh [APETOOL]
 # shellcheck source=scripts/lib.sh
 . "$(dirname "$0")/lib.sh"
 
@@ -10,6 +10,7 @@ size=100000000
 bound=250 # hundredths
 symbols=100000
 symbols_bound=130
+windows_bound=130
 loaded=500000000
 load_bound=200
 
@@ -43,9 +44,17 @@ measure_load() {
 
 # A program of many functions, with their symbols and stripped of them.
 make_symbols() {
-    seq "$symbols" | sed 's/.*/function_&_of_the_program: .skip 64, 0x90/; 1i .globl _start\n_start:' |
-        as --64 -o "$work/symbols.o" - && ld -static -o "$work/symbols" "$work/symbols.o" &&
-        strip -o "$work/stripped" "$work/symbols"
+    functions _start symbols && strip -o "$work/stripped" "$work/symbols"
+}
+
+# The same with an entry for Windows.
+make_windows() {
+    functions ape_pe_entry windows
+}
+
+functions() { # ENTRY FILE
+    seq "$symbols" | sed "s/.*/function_&_of_the_program: .skip 64, 0x90/; 1i .globl $1\n$1:" |
+        as --64 -o "$work/$2.o" - && ld -static -e "$1" -o "$work/$2" "$work/$2.o"
 }
 
 # Links of both in turns, with the least times.
@@ -58,6 +67,23 @@ measure_symbols() {
         rm -f "$work/linked"
         time_of link "$work/linked" "$work/stripped" || return 1
         [ "$turn" != 1 ] && [ "$took" -ge "$bare" ] || bare=$took
+    done
+}
+
+link_for_windows() { # OUT IN
+    "$apetool" link --systems linux,windows -o "$1" "$2"
+}
+
+# Links of that program with Windows and without, in turns, with the least times.
+measure_windows() {
+    local turn
+    for turn in 1 2 3 4 5; do
+        rm -f "$work/linked"
+        time_of link_for_windows "$work/linked" "$work/windows" || return 1
+        [ "$turn" != 1 ] && [ "$took" -ge "$windows" ] || windows=$took
+        rm -f "$work/linked"
+        time_of link "$work/linked" "$work/windows" || return 1
+        [ "$turn" != 1 ] && [ "$took" -ge "$without" ] || without=$took
     done
 }
 
@@ -99,6 +125,10 @@ if is_there as && is_there ld && is_there strip; then
     check 'it is linked five times' measure_symbols
     [ "$failed" = 0 ] || finish
     compare 'link with 100,000 symbols' "$naming" 'without them' "$bare" "$symbols_bound"
+    check 'the same with an entry for Windows is made' make_windows
+    check 'it is linked five times for Windows too' measure_windows
+    [ "$failed" = 0 ] || finish
+    compare 'link for Linux and Windows' "$windows" 'for Linux alone' "$without" "$windows_bound"
 else
     skip 'symbols' 'they are made by as, ld and strip (package binutils)'
 fi
