@@ -55,6 +55,7 @@ link() { # OUT IN
 time_of() { # COMMAND..
     local begun=${EPOCHREALTIME/./}
     "$@" || return 1
+    # shellcheck disable=SC2034 # the scripts that call it read it
     took=$((${EPOCHREALTIME/./} - begun))
 }
 
