@@ -57,34 +57,21 @@ functions() { # ENTRY FILE
         as --64 -o "$work/$2.o" - && ld -static -e "$1" -o "$work/$2" "$work/$2.o"
 }
 
-# Links of both in turns, with the least times.
-measure_symbols() {
+# Two links in turns, each of its input to a new output, with the least times in $one and $other.
+measure_links() { # COMMAND IN COMMAND IN
     local turn
     for turn in 1 2 3 4 5; do
         rm -f "$work/linked"
-        time_of link "$work/linked" "$work/symbols" || return 1
-        [ "$turn" != 1 ] && [ "$took" -ge "$naming" ] || naming=$took
+        time_of "$1" "$work/linked" "$2" || return 1
+        [ "$turn" != 1 ] && [ "$took" -ge "$one" ] || one=$took
         rm -f "$work/linked"
-        time_of link "$work/linked" "$work/stripped" || return 1
-        [ "$turn" != 1 ] && [ "$took" -ge "$bare" ] || bare=$took
+        time_of "$3" "$work/linked" "$4" || return 1
+        [ "$turn" != 1 ] && [ "$took" -ge "$other" ] || other=$took
     done
 }
 
 link_for_windows() { # OUT IN
     "$apetool" link --systems linux,windows -o "$1" "$2"
-}
-
-# Links of that program with Windows and without, in turns, with the least times.
-measure_windows() {
-    local turn
-    for turn in 1 2 3 4 5; do
-        rm -f "$work/linked"
-        time_of link_for_windows "$work/linked" "$work/windows" || return 1
-        [ "$turn" != 1 ] && [ "$took" -ge "$windows" ] || windows=$took
-        rm -f "$work/linked"
-        time_of link "$work/linked" "$work/windows" || return 1
-        [ "$turn" != 1 ] && [ "$took" -ge "$without" ] || without=$took
-    done
 }
 
 is_planned() {
@@ -122,13 +109,13 @@ compare link "$linking" cp "$copying" "$bound"
 mv "$work/linked" "$work/large"
 if is_there as && is_there ld && is_there strip; then
     check 'a program of 100,000 symbols is made' make_symbols
-    check 'it is linked five times' measure_symbols
+    check 'it is linked five times' measure_links link "$work/symbols" link "$work/stripped"
     [ "$failed" = 0 ] || finish
-    compare 'link with 100,000 symbols' "$naming" 'without them' "$bare" "$symbols_bound"
+    compare 'link with 100,000 symbols' "$one" 'without them' "$other" "$symbols_bound"
     check 'the same with an entry for Windows is made' make_windows
-    check 'it is linked five times for Windows too' measure_windows
+    check 'it is linked five times for Windows too' measure_links link_for_windows "$work/windows" link "$work/windows"
     [ "$failed" = 0 ] || finish
-    compare 'link for Linux and Windows' "$windows" 'for Linux alone' "$without" "$windows_bound"
+    compare 'link for Linux and Windows' "$one" 'for Linux alone' "$other" "$windows_bound"
 else
     skip 'symbols' 'they are made by as, ld and strip (package binutils)'
 fi
