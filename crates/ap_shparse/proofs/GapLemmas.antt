@@ -3,14 +3,14 @@ use Rattle.std.proofs.Common.{◌≡◌, ◌∙◌, ◌≤◌, ◌-◌, ℕ, zer
 use Rattle.std.specs.Prelude.{Option, Some, None, is_some, option_map}
 use Rattle.ap_shparse.specs.Bytes.{Text, after, gap, has, past_comment, run}
 use Rattle.ap_shparse.specs.Reads.{if_eaten}
-use Rattle.ap_shparse.specs.Places.{Place, at_text, behind, newlines_by, newlines_from, no_newline, past_gap, past_newline}
+use Rattle.ap_shparse.specs.Places.{Place, at_text, behind, newlines_from, past_gap, past_newline}
 use Rattle.ap_shparse.specs.declared.class.Class.{Class}
 use Rattle.ap_shparse.specs.declared.class.Class.TheVariants.{Blank, Comment}
 use Rattle.ap_shparse.proofs.Keeps.{inner}
 use Rattle.ap_shparse.proofs.KeptRuns.{kept_gap}
 use Rattle.ap_shparse.proofs.KeptHere.{NotNil}
 use Rattle.ap_shparse.proofs.KeptPlaces.{Some_, place}
-use Rattle.ap_shparse.proofs.KeptLines.{at_newline, fits, kept_newline}
+use Rattle.ap_shparse.proofs.KeptLines.{at_newline, fits, goes_on, kept_newline, stays}
 
 -- ---- lengths
 
@@ -183,15 +183,6 @@ pub record LinesAlone (p : Place) (b : Text) : Type 0 where
   pub as_long : length tail ≡ length b
   pub some : Some_ bodies
   pub same : (m : ℕ) → length front ≤ m → newlines_from m (place front bodies []) ≡ Some nothing
-
-stays : (m : ℕ) (p q : Place) → past_gap p ≡ q → past_newline q ≡ None → newlines_from m p ≡ Some q
-unfolding newlines_from
-stays zero p q g e = ap no_newline g ∙ ap (λ o. if is_some o then None else Some q) e
-stays (suc m) p q g e = ap (newlines_by (newlines_from m)) g ∙ ap (λ o. if_eaten o (newlines_from m) (Some q)) e
-
-pub goes_on : (m : ℕ) (p g q : Place) → past_gap p ≡ g → past_newline g ≡ Some q → newlines_from (suc m) p ≡ newlines_from m q
-unfolding newlines_from
-goes_on m p g q is e = ap (newlines_by (newlines_from m)) is ∙ ap (λ o. if_eaten o (newlines_from m) (Some g)) e
 
 gap_here : (p q : Place) → past_gap p ≡ q → q.bodies ≡ None → LinesAlone p q.text
 gap_here p q g n =

@@ -11,9 +11,9 @@ use Rattle.ap_shparse.proofs.Keeps.{inner}
 use Rattle.ap_shparse.proofs.KeptRuns.{kept_gap}
 use Rattle.ap_shparse.proofs.KeptPieces.{never_some}
 use Rattle.ap_shparse.proofs.KeptPlaces.{Left, PKeeps, Some_, place}
-use Rattle.ap_shparse.proofs.KeptLines.{at_newline, kept_all_lines, kept_newline}
+use Rattle.ap_shparse.proofs.KeptLines.{at_newline, goes_on, kept_all_lines, kept_newline}
 use Rattle.ap_shparse.proofs.ItemLemmas.{as_turn, fits_nothing, kept_item, map_nil, read_whole}
-use Rattle.ap_shparse.proofs.GapLemmas.{gap_more, goes_on, lines_short}
+use Rattle.ap_shparse.proofs.GapLemmas.{gap_more, lines_short}
 use Rattle.ap_shparse.proofs.FrontLemmas.{Items}
 
 -- a place, with this text behind

@@ -19,9 +19,8 @@ use Rattle.ap_shparse.specs.declared.tree.Nul.TheVariants as nul
 use Rattle.ap_shparse.proofs.Keeps.{inner}
 use Rattle.ap_shparse.proofs.KeptRuns.{kept_gap}
 use Rattle.ap_shparse.proofs.KeptPlaces.{PKeeps, Some_, place}
-use Rattle.ap_shparse.proofs.KeptLines.{Fits, at_newline, fits, kept_all_lines, kept_newline}
+use Rattle.ap_shparse.proofs.KeptLines.{Fits, at_newline, fits, goes_on, kept_all_lines, kept_newline}
 use Rattle.ap_shparse.proofs.ItemLemmas.{map_nil, fits_nothing, kept_item, read_whole}
-use Rattle.ap_shparse.proofs.GapLemmas.{goes_on}
 use Rattle.ap_shparse.proofs.FrontLemmas.{Items, all_lines, lines_all, stop_on}
 use Rattle.ap_shparse.proofs.GrownLemmas.{grown, grown_item, grown_line, more_lines}
 use Rattle.ap_shparse.proofs.LongestLemmas.{AtItem, AtStop, opened, script_next, stop_or_item, total}

@@ -149,10 +149,6 @@ not_zero : (r f : Text) → NotNil r → length r ≤ length f → length f ≤ 
 not_zero [] f g le z = g
 not_zero (c ∷ t) f g le z = omega (arith, le, z)
 
-pub not_nil : (r : Text) → Has r → NotNil r
-not_nil [] h = absurd h
-not_nil (c ∷ t) h = tt
-
 pub kept_line : (sub : Text → Outcome Text Simple) → Keeps sub sub → (n : ℕ) (x : Text) (a : Unit {0}) (r b : Text) → line_from sub n x ≡ Some (a, r ++ b) → NotNil r → KeptLine sub x r b
 unfolding line_from
 kept_line sub k zero x a r b e g = cc

@@ -134,14 +134,14 @@ pub record KeptLines (n : ℕ) (p : Place) (r : Text) (fs : Option Text) (b : Te
   pub eats : length r ≤ length front
   pub same : (c : Text) (m : ℕ) → length front ≤ m → newlines_from m (place front bodies c) ≡ Some (place r fs c)
 
-stands : (m : ℕ) (p q : Place) → past_gap p ≡ q → past_newline q ≡ None → newlines_from m p ≡ Some q
+pub stays : (m : ℕ) (p q : Place) → past_gap p ≡ q → past_newline q ≡ None → newlines_from m p ≡ Some q
 unfolding newlines_from
-stands zero p q g e = ap no_newline g ∙ ap (λ o. if is_some o then None else Some q) e
-stands (suc m) p q g e = ap (newlines_by (newlines_from m)) g ∙ ap (λ o. if_eaten o (newlines_from m) (Some q)) e
+stays zero p q g e = ap no_newline g ∙ ap (λ o. if is_some o then None else Some q) e
+stays (suc m) p q g e = ap (newlines_by (newlines_from m)) g ∙ ap (λ o. if_eaten o (newlines_from m) (Some q)) e
 
-goes : (m : ℕ) (p g q : Place) → past_gap p ≡ g → past_newline g ≡ Some q → newlines_from (suc m) p ≡ newlines_from m q
+pub goes_on : (m : ℕ) (p g q : Place) → past_gap p ≡ g → past_newline g ≡ Some q → newlines_from (suc m) p ≡ newlines_from m q
 unfolding newlines_from
-goes m p g q is e = ap (newlines_by (newlines_from m)) is ∙ ap (λ o. if_eaten o (newlines_from m) (Some g)) e
+goes_on m p g q is e = ap (newlines_by (newlines_from m)) is ∙ ap (λ o. if_eaten o (newlines_from m) (Some g)) e
 
 at_once : (n : ℕ) (p q : Place) (r : Text) (fs : Option Text) (b tail : Text) → past_gap p ≡ q → past_newline q ≡ None → Left q r fs b tail → KeptLines n p r fs b
 at_once n p q r fs b tail g e l =
@@ -152,7 +152,7 @@ at_once n p q r fs b tail g e l =
       tail = tail;
       left = record { is_text = m.spelling; is_bodies = ap (λ y. y.bodies) g ∙ l.is_bodies; as_long = l.as_long; has_stop = m.has_stop; some = l.some };
       eats = m.eats;
-      same = λ c k le. stands k (place m.front fs c) (place r fs c) (ap (λ y. at_text (place m.front fs c) y) (m.same c)) (no_line r fs b c q l.is_text e l.has_stop);
+      same = λ c k le. stays k (place m.front fs c) (place r fs c) (ap (λ y. at_text (place m.front fs c) y) (m.same c)) (no_line r fs b c q l.is_text e l.has_stop);
     }
 
 pub kept_lines : (n : ℕ) (p q : Place) (r : Text) (fs : Option Text) (b tail : Text) → newlines_from n p ≡ Some q → Left q r fs b tail → KeptLines n p r fs b
@@ -191,7 +191,7 @@ kept_lines (suc n) p q r fs b tail e l = by_newline (past_newline (past_gap p)) 
               eats = omega (arith, g.eats, m.eats, le);
               same = λ c. elim [
                 | zero ↦ λ j. absurd (omega (arith, g.eats, m.eats, j))
-                | suc i ↦ λ j. goes i (place g.front m.bodies c) (place m.front m.bodies c) (place front None c) (ap (λ y. at_text (place g.front m.bodies c) y) (g.same c)) (m.same c) ∙ same c i (omega (arith, g.eats, m.eats, j))
+                | suc i ↦ λ j. goes_on i (place g.front m.bodies c) (place m.front m.bodies c) (place front None c) (ap (λ y. at_text (place g.front m.bodies c) y) (g.same c)) (m.same c) ∙ same c i (omega (arith, g.eats, m.eats, j))
               ];
             }
 

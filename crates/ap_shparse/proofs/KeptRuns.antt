@@ -92,10 +92,6 @@ kept_after k lacks (x ∷ t) h = by_has (has k x) refl h (kept_after k lacks t)
           same = λ b. ap (λ v. if v then after k (t ++ b) else x ∷ (t ++ b)) is ∙ ap (λ y. y ++ b) (sym (ap (λ v. if v then after k t else x ∷ t) is));
         }
 
-blank_lacks : LacksStops Blank
-unfolding has
-blank_lacks c e = grind (arith, nat_tests)
-
 digit_lacks : LacksStops Digit
 unfolding has
 digit_lacks c e = grind (arith, nat_tests)
@@ -103,9 +99,6 @@ digit_lacks c e = grind (arith, nat_tests)
 name_lacks : LacksStops Name
 unfolding has
 name_lacks c e = grind (arith, nat_tests)
-
-pub after_blanks : (t : Text) → Has t → KeptAfter Blank t
-after_blanks = kept_after Blank blank_lacks
 
 pub after_digits : (t : Text) → Has t → KeptAfter Digit t
 after_digits = kept_after Digit digit_lacks

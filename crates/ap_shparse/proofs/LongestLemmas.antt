@@ -10,6 +10,7 @@ use Rattle.ap_shparse.specs.Fronts.{at_stop, front_from, is_cut, on_item, whole_
 use Rattle.ap_shparse.specs.declared.script.Turn.{Turn}
 use Rattle.ap_shparse.specs.declared.script.Turn.TheVariants as turned
 use Rattle.ap_shparse.specs.declared.tree.Chain.{Chain}
+use Rattle.ap_shparse.proofs.Keeps.{inner}
 use Rattle.ap_shparse.proofs.KeptPlaces.{PKeeps, Some_}
 use Rattle.ap_shparse.proofs.ItemLemmas.{some_bodies}
 use Rattle.ap_shparse.proofs.FrontLemmas.{Items, all_lines, err_of, less_left, no_err, stop_err, stop_on, stopped}
@@ -55,14 +56,11 @@ pub record AtStop (q : Place) (ts us : List Turn) : Type 0 where
   pub no_bodies : q.bodies ≡ None
   pub same : ts ≡ us
 
-some_inner : {X : Type 0} (x y : X) → Some x ≡ Some y → x ≡ y
-some_inner x y e = cc
-
 at_stop_is : (q : Place) (ts us : List Turn) → at_stop ts q ≡ Some us → AtStop q ts us
 at_stop_is q ts us e = by_parts q.text q.bodies refl refl e
   where
     by_parts : (t : Text) (bs : Option Text) → q.text ≡ t → q.bodies ≡ bs → (if is_nil t && not (is_some bs) then Some ts else None) ≡ Some us → AtStop q ts us
-    by_parts [] None t b e = record { no_text = t; no_bodies = b; same = some_inner ts us e }
+    by_parts [] None t b e = record { no_text = t; no_bodies = b; same = inner ts us e }
     by_parts [] (Some z) t b e = cc
     by_parts (c ∷ x) bs t b e = cc
 
