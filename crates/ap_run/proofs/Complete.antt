@@ -11,8 +11,9 @@ use Rattle.ap_link.specs.FileAnswers.{HasSecond, AreUnread}
 use Rattle.ap_files.specs.Sinks.{SinkState}
 use Rattle.ap_run.specs.Words.{LinkNames, names_in, options_of}
 use Rattle.ap_run.specs.Options.{View, view_in}
-use Rattle.ap_run.specs.Formats.{text_in}
-use Rattle.ap_run.specs.Shows.{Ends}
+use Rattle.ap_run.specs.ScriptWords.{ScriptRun, script_in}
+use Rattle.ap_run.specs.Scripted.{Scripted}
+use Rattle.ap_run.specs.Shows.{Ends, ShowsBy}
 use Rattle.ap_run.specs.Dumps.{DumpEnds, dumped_in}
 use Rattle.ap_run.specs.declared.format.Format.{Format}
 use Rattle.ap_files.specs.Reads as reads
@@ -21,6 +22,7 @@ use Rattle.ap_run.specs.declared.end.ReadingFault.{ReadingFault}
 use Rattle.ap_run.specs.declared.end.Cause.{Cause}
 use Rattle.ap_run.specs.declared.end.Cause.TheVariants.{Done, Refused, Unread, Usage, ReadFault, WriteFault, OutFault, NoMemory}
 use Rattle.ap_files.proofs.ReadLemmas.{some_same, not_some, told_of}
+use Rattle.ap_run.proofs.Scripts.{one-answer}
 
 no_rise : (before now : ℕ) → Stands before now → Rose before now → ⊥
 no_rise before now s r = let a = s.0 in let b = s.1 in omega arith
@@ -138,22 +140,26 @@ ok_err e h = cc
 unread_same : {T : Type 0} {f g : ReadingFault} {r : Result T ReadingFault} → r ≡ Err f → r ≡ Err g → Unread f ≡ Unread g
 unread_same e h = cc
 
-shown_by : (old new : FileState) (before after : SinkState) (format : Format) (name : List ℕ) (cause : Cause) (m : FileMap) (b : List ℕ) → Ends old new before after format name cause → Stands old.read_faults new.read_faults
-    → old.kept ≡ Some m → map.get m name ≡ Some b → AnswersBy before after cause (text_in format b)
-shown_by old new before after format name Done m b h r k g =
-    let shown = told_of old.kept name m b h.1.2 k g in (λ f e. absurd (ok_err shown e), λ t e s. inl refl)
-shown_by old new before after format name (Unread f) m b h r k g =
-    let shown = told_of old.kept name m b h.2 k g in (λ f' e. inl (unread_same shown e), λ t e s. absurd (ok_err e shown))
-shown_by old new before after format name OutFault m b h r k g =
-    let shown = told_of old.kept name m b h.1.2 k g in (λ f e. absurd (ok_err shown e), λ t e s. absurd (no_rise _ _ s h.1.1.rose))
-shown_by old new before after format name ReadFault m b h r k g = absurd (unread_by old new name m b h.0 r k g)
-shown_by old new before after format name NoMemory m b h r k g = (λ f e. inr refl, λ t e s. inr refl)
-shown_by old new before after format name (Refused f) m b h r k g = absurd h
-shown_by old new before after format name Usage m b h r k g = absurd h
-shown_by old new before after format name WriteFault m b h r k g = absurd h
+-- a file is shown in one way at most
+abbrev IsOne : (List ℕ → Result (List ℕ) ReadingFault → Type 0) → List ℕ → Type 0
+IsOne P b = (x y : Result (List ℕ) ReadingFault) → P b x → P b y → x ≡ y
+
+shown_by : (old new : FileState) (before after : SinkState) (P : List ℕ → Result (List ℕ) ReadingFault → Type 0) (name : List ℕ) (cause : Cause) (m : FileMap) (b : List ℕ) → IsOne P b
+    → Ends old new before after P name cause → Stands old.read_faults new.read_faults → old.kept ≡ Some m → map.get m name ≡ Some b → AnswersBy before after cause (P b)
+shown_by old new before after P name Done m b one h r k g =
+    let shown = told_of old.kept name m b h.1.2 k g in (λ f e. absurd (ok_err refl (one (Ok h.1.0) (Err f) shown e)), λ t e s. inl refl)
+shown_by old new before after P name (Unread f) m b one h r k g =
+    let shown = told_of old.kept name m b h.2 k g in (λ f' e. inl (unread_same refl (one (Err f) (Err f') shown e)), λ t e s. absurd (ok_err refl (one (Ok t) (Err f) e shown)))
+shown_by old new before after P name OutFault m b one h r k g =
+    let shown = told_of old.kept name m b h.1.2 k g in (λ f e. absurd (ok_err refl (one (Ok h.1.0) (Err f) shown e)), λ t e s. absurd (no_rise _ _ s h.1.1.rose))
+shown_by old new before after P name ReadFault m b one h r k g = absurd (unread_by old new name m b h.0 r k g)
+shown_by old new before after P name NoMemory m b one h r k g = (λ f e. inr refl, λ t e s. inr refl)
+shown_by old new before after P name (Refused f) m b one h r k g = absurd h
+shown_by old new before after P name Usage m b one h r k g = absurd h
+shown_by old new before after P name WriteFault m b one h r k g = absurd h
 
 dumped_so : (old new : FileState) (before after : SinkState) (format : Format) (name image : List ℕ) (cause : Cause) (m : FileMap) (b : List ℕ) → DumpEnds old new before after format name image cause
-    → Stands old.read_faults new.read_faults → Stands old.write_faults new.write_faults → old.kept ≡ Some m → map.get m name ≡ Some b → AnswersBy before after cause (dumped_in format b)
+    → Stands old.read_faults new.read_faults → Stands old.write_faults new.write_faults → old.kept ≡ Some m → map.get m name ≡ Some b → AnswersBy before after cause (λ dumped. dumped_in format b ≡ dumped)
 dumped_so old new before after format name image Done m b h r w k g =
     let made = told_of old.kept name m b h.3 k g in (λ f e. absurd (ok_err made e), λ t e s. inl refl)
 dumped_so old new before after format name image OutFault m b h r w k g =
@@ -168,13 +174,15 @@ dumped_so old new before after format name image Usage m b h r w k g = absurd h
 
 view_by : (old new : FileState) (before after : SinkState) (format : Format) (name : List ℕ) (dump : Option (List ℕ)) (cause : Cause) (m : FileMap) (b : List ℕ) → ViewEnds old new before after format name dump cause
     → Stands old.read_faults new.read_faults → Stands old.write_faults new.write_faults → old.kept ≡ Some m → map.get m name ≡ Some b → ViewAnswers before after cause format dump b
-view_by old new before after format name None cause m b h r w k g = shown_by old new before after format name cause m b h r k g
+view_by old new before after format name None cause m b h r w k g = shown_by old new before after (ShowsBy format) name cause m b (λ x y e e'. sym e ∙ e') h r k g
 view_by old new before after format name (Some image) cause m b h r w k g = dumped_so old new before after format name image cause m b h r w k g
 
-complete_by : (old new : FileState) (before after : SinkState) (names : Option LinkNames) (view : Option View) (cause : Cause) → EndsBy old new before after names view cause → CompleteBy old new before after names view cause
-complete_by old new before after (Some names) view cause h = link_by old new names cause h.0
-complete_by old new before after None (Some view) cause h = λ r w m b k g. view_by old new before after view.format view.file view.dump cause m b h r w k g
-complete_by old new before after None None cause h = tt
+complete_by : (old new : FileState) (before after : SinkState) (names : Option LinkNames) (view : Option View) (run : Option ScriptRun) (cause : Cause) → EndsBy old new before after names view run cause
+    → CompleteBy old new before after names view run cause
+complete_by old new before after (Some names) view run cause h = link_by old new names cause h.0
+complete_by old new before after None (Some view) run cause h = λ r w m b k g. view_by old new before after view.format view.file view.dump cause m b h r w k g
+complete_by old new before after None None (Some run) cause h = λ r w m b k g. shown_by old new before after (Scripted run) run.file cause m b (one-answer run b) h r k g
+complete_by old new before after None None None cause h = tt
 
 pub complete : (old new : FileState) (before after : SinkState) (words : List (List ℕ)) (cause : Cause) → RunEnds old new before after words cause → IsComplete old new before after words cause
-complete old new before after words cause h = complete_by old new before after (names_in words) (view_in words) cause h
+complete old new before after words cause h = complete_by old new before after (names_in words) (view_in words) (script_in words) cause h

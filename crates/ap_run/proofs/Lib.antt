@@ -8,4 +8,6 @@ pub mod SystemNames
 pub mod Showing
 pub mod Dumping
 pub mod ViewCells
-pub mod ReadListings
+pub mod ReadWhole
+pub mod ScriptWordLemmas
+pub mod Scripts

@@ -34,6 +34,7 @@ plans-unmeasured old new format name (Unread (fault.Elf f)) h = absurd h
 plans-unmeasured old new format name (Unread (fault.Ape f)) h = absurd h
 plans-unmeasured old new format name (Unread (fault.Pe f)) h = absurd h
 plans-unmeasured old new format name (Unread (fault.Walk f)) h = absurd h
+plans-unmeasured old new format name (Unread (fault.Shell at)) h = absurd h
 plans-unmeasured old new format name ReadFault h = h
 plans-unmeasured old new format name Done h = absurd h
 plans-unmeasured old new format name (Refused f) h = absurd h

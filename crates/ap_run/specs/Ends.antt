@@ -11,8 +11,9 @@ use Rattle.ap_link.specs.FileAnswers.{LinksFiles}
 use Rattle.ap_files.specs.Sinks.{SinkState}
 use Rattle.ap_run.specs.Words.{LinkNames, names_in, options_of}
 use Rattle.ap_run.specs.Options.{View, view_in}
-use Rattle.ap_run.specs.Formats.{text_in}
-use Rattle.ap_run.specs.Shows.{Ends}
+use Rattle.ap_run.specs.ScriptWords.{ScriptRun, script_in}
+use Rattle.ap_run.specs.Scripted.{Scripted}
+use Rattle.ap_run.specs.Shows.{Ends, ShowsBy}
 use Rattle.ap_run.specs.Dumps.{DumpEnds, dumped_in}
 use Rattle.ap_run.specs.declared.format.Format.{Format}
 use Rattle.ap_run.specs.declared.end.ReadingFault.{ReadingFault}
@@ -46,17 +47,18 @@ LinkEnds old new names NoMemory = new ≡ old
 
 -- how a view ends, without an image file or with one
 abbrev pub ViewEnds : FileState → FileState → SinkState → SinkState → Format → List ℕ → Option (List ℕ) → Cause → Type 0
-ViewEnds old new before after format file None cause = Ends old new before after format file cause
+ViewEnds old new before after format file None cause = Ends old new before after (ShowsBy format) file cause
 ViewEnds old new before after format file (Some image) cause = DumpEnds old new before after format file image cause
 
--- how a run ends, by the link or the view that its words are; a link prints nothing
-abbrev pub EndsBy : FileState → FileState → SinkState → SinkState → Option LinkNames → Option View → Cause → Type 0
-EndsBy old new before after (Some names) view cause = LinkEnds old new names cause × (after ≡ before)
-EndsBy old new before after None (Some view) cause = ViewEnds old new before after view.format view.file view.dump cause
-EndsBy old new before after None None cause = (cause ≡ Usage) × (new ≡ old) × (after ≡ before)
+-- how a run ends, by the link, the view or the run of a script that its words are; a link prints nothing
+abbrev pub EndsBy : FileState → FileState → SinkState → SinkState → Option LinkNames → Option View → Option ScriptRun → Cause → Type 0
+EndsBy old new before after (Some names) view run cause = LinkEnds old new names cause × (after ≡ before)
+EndsBy old new before after None (Some view) run cause = ViewEnds old new before after view.format view.file view.dump cause
+EndsBy old new before after None None (Some run) cause = Ends old new before after (Scripted run) run.file cause
+EndsBy old new before after None None None cause = (cause ≡ Usage) × (new ≡ old) × (after ≡ before)
 
 abbrev pub RunEnds : FileState → FileState → SinkState → SinkState → List (List ℕ) → Cause → Type 0
-RunEnds old new before after words cause = EndsBy old new before after (names_in words) (view_in words) cause
+RunEnds old new before after words cause = EndsBy old new before after (names_in words) (view_in words) (script_in words) cause
 
 -- a count stands, and is below its last value
 abbrev pub Stands : ℕ → ℕ → Type 0
@@ -86,16 +88,17 @@ LinkComplete old new names cause =
     Stands old.read_faults new.read_faults → Stands old.write_faults new.write_faults → ForFile old.kept names.first (λ a.
     RefusedFor (first_fault_of 1 a) cause × ForSecond old.kept names.second (BothComplete (options_of names) cause a))
 
--- an answer comes exactly where a file is refused, and the work is done where it isn't and no print failed
-abbrev pub AnswersBy : {T : Type 0} → SinkState → SinkState → Cause → Result T ReadingFault → Type 0
-AnswersBy {T} before after cause answer =
-    ((fault : ReadingFault) → answer ≡ Err fault → (cause ≡ Unread fault) ⊎ (cause ≡ NoMemory))
-    × ((made : T) → answer ≡ Ok made → Stands before.faults after.faults → (cause ≡ Done) ⊎ (cause ≡ NoMemory))
+-- A file that a relation refuses is unread for that fault, and the work is done where it makes something of the file and no
+-- print failed.
+abbrev pub AnswersBy : {T : Type 0} → SinkState → SinkState → Cause → (Result T ReadingFault → Type 0) → Type 0
+AnswersBy {T} before after cause P =
+    ((fault : ReadingFault) → P (Err fault) → (cause ≡ Unread fault) ⊎ (cause ≡ NoMemory))
+    × ((made : T) → P (Ok made) → Stands before.faults after.faults → (cause ≡ Done) ⊎ (cause ≡ NoMemory))
 
 -- by the text, or by the text and the image file
 abbrev pub ViewAnswers : SinkState → SinkState → Cause → Format → Option (List ℕ) → List ℕ → Type 0
-ViewAnswers before after cause format None file = AnswersBy before after cause (text_in format file)
-ViewAnswers before after cause format (Some image) file = AnswersBy before after cause (dumped_in format file)
+ViewAnswers before after cause format None file = AnswersBy before after cause (ShowsBy format file)
+ViewAnswers before after cause format (Some image) file = AnswersBy before after cause (λ dumped. dumped_in format file ≡ dumped)
 
 -- Where the file is told and no read or write failed, a view is refused exactly where the format refuses the file, and done
 -- where it doesn't and no print failed, unless memory runs out.
@@ -103,10 +106,16 @@ abbrev pub ViewComplete : FileState → FileState → SinkState → SinkState �
 ViewComplete old new before after view cause =
     Stands old.read_faults new.read_faults → Stands old.write_faults new.write_faults → ForFile old.kept view.file (ViewAnswers before after cause view.format view.dump)
 
-abbrev pub CompleteBy : FileState → FileState → SinkState → SinkState → Option LinkNames → Option View → Cause → Type 0
-CompleteBy old new before after (Some names) view cause = LinkComplete old new names cause
-CompleteBy old new before after None (Some view) cause = ViewComplete old new before after view cause
-CompleteBy old new before after None None cause = Unit {0}
+-- and the run of a script by what it does
+abbrev pub ScriptComplete : FileState → FileState → SinkState → SinkState → ScriptRun → Cause → Type 0
+ScriptComplete old new before after run cause =
+    Stands old.read_faults new.read_faults → Stands old.write_faults new.write_faults → ForFile old.kept run.file (λ file. AnswersBy before after cause (Scripted run file))
+
+abbrev pub CompleteBy : FileState → FileState → SinkState → SinkState → Option LinkNames → Option View → Option ScriptRun → Cause → Type 0
+CompleteBy old new before after (Some names) view run cause = LinkComplete old new names cause
+CompleteBy old new before after None (Some view) run cause = ViewComplete old new before after view cause
+CompleteBy old new before after None None (Some run) cause = ScriptComplete old new before after run cause
+CompleteBy old new before after None None None cause = Unit {0}
 
 abbrev pub IsComplete : FileState → FileState → SinkState → SinkState → List (List ℕ) → Cause → Type 0
-IsComplete old new before after words cause = CompleteBy old new before after (names_in words) (view_in words) cause
+IsComplete old new before after words cause = CompleteBy old new before after (names_in words) (view_in words) (script_in words) cause

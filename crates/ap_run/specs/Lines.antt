@@ -12,7 +12,7 @@ use Rattle.ap_pe.specs.declared.fault.PeCause.{PeCause}
 use Rattle.ap_pe.specs.declared.fault.PeCause.TheVariants as pe
 use Rattle.ap_pe.specs.declared.fault.PeFault.{PeFault}
 use Rattle.ap_run.specs.declared.end.ReadingFault.{ReadingFault}
-use Rattle.ap_run.specs.declared.end.ReadingFault.TheVariants.{Large, Wide, Elf, Ape, Pe, Walk}
+use Rattle.ap_run.specs.declared.end.ReadingFault.TheVariants.{Large, Wide, Elf, Ape, Pe, Walk, Shell}
 use Rattle.ap_run.specs.declared.end.Cause.{Cause}
 use Rattle.ap_run.specs.declared.end.Cause.TheVariants.{Done, Refused, Unread, Usage, ReadFault, WriteFault, OutFault, NoMemory}
 
@@ -92,6 +92,7 @@ reading_line (Elf f) = elf_line f
 reading_line (Ape f) = ape_line f
 reading_line (Pe f) = pe_line f
 reading_line (Walk f) = fault_line (codes "import") (walk_cause_name f.cause) 0 f.at
+reading_line (Shell at) = fault_line (codes "shell") (codes "Outside") 0 at
 
 -- the line of a cause, but for a command that did its work
 abbrev pub line_of : Cause → Option (List ℕ)

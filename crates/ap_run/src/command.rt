@@ -14,6 +14,8 @@ use crate::dump::dump;
 use crate::end::{Cause, End, end_by};
 use crate::link::Link;
 use crate::options::{View, read_view};
+use crate::script::script;
+use crate::script_words::read_script;
 use crate::show::show;
 use crate::words::read_link;
 use ap_check::Options;
@@ -24,7 +26,8 @@ use std::alloc::Global;
 
 /// Does what the words say over these files, and answers how it ended. `words` doesn't have the program's name.
 ///
-/// `load` and `map` print a plan on `out`, and `load --dump` writes its image file before; a link prints nothing there.
+/// `load` and `map` print a plan on `out`, and `load --dump` writes its image file before; `script` prints how the file's
+/// script ends, and executes nothing; a link prints nothing there.
 /// Where the status isn't 0, one line on `err` says why.
 ///
 /// A plan has, at each address, the byte and the permissions that the format's reading gives of the file, and the entry
@@ -56,8 +59,11 @@ fn obey<F: Files, O: Sink>(alloc: Global, words: &[String], files: &mut F, out: 
     if let Some(names) = read_link(words) {
         return link(files, &names);
     }
-    match read_view(words) {
-        Some(view) => show_view(alloc, files, out, &view),
+    if let Some(view) = read_view(words) {
+        return show_view(alloc, files, out, &view);
+    }
+    match read_script(words) {
+        Some(run) => script(alloc, files, out, &run),
         None => Cause::Usage,
     }
 }

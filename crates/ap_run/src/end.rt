@@ -33,6 +33,11 @@ pub enum ReadingFault {
     Pe(PeFault),
     /// Its import directory doesn't stand.
     Walk(WalkFault),
+    /// Its text isn't in the shell grammar.
+    Shell {
+        /// The length of the text's longest whole front, in bytes.
+        at: u64,
+    },
 }
 
 /// Why a run ended.

@@ -1,7 +1,8 @@
 // The text of what a PE32+ file imports.
 ghost use Rattle.std.specs.Prelude.{◌≡◌, ◌++◌, OnOk};
-ghost use Rattle.ap_run.specs.ImportTexts.{import_line, imports_text, name_text, shown_byte, wanted_text};
+ghost use Rattle.ap_run.specs.ImportTexts.{import_line, imports_text, wanted_text};
 
+use crate::byte_text::push_bytes;
 use crate::text::push_hex;
 use ap_image::{Import, Wanted};
 use itoa::Buffer;
@@ -24,7 +25,7 @@ fn push_import(text: &mut Vec<u8>, import: &Import) -> Result<(), AllocError>
     ensures { OnOk result (text.new.items ≡ text.old.items ++ import_line import.now) }
 {
     text.extend_from_slice(b"import ")?;
-    push_name(text, import.dll.as_slice())?;
+    push_bytes(text, import.dll.as_slice())?;
     text.extend_from_slice(b" ")?;
     push_wanted(text, &import.what)?;
     text.extend_from_slice(b" ")?;
@@ -37,37 +38,11 @@ fn push_wanted(text: &mut Vec<u8>, what: &Wanted) -> Result<(), AllocError>
     ensures { OnOk result (text.new.items ≡ text.old.items ++ wanted_text what.now) }
 {
     match what {
-        Wanted::Name { name } => push_name(text, name.as_slice()),
+        Wanted::Name { name } => push_bytes(text, name.as_slice()),
         Wanted::Ordinal { number } => {
             let mut buffer = Buffer::new();
             text.extend_from_slice(b"#")?;
             text.extend_from_slice(buffer.format(*number as u64).as_bytes())
         }
     }
-}
-
-#[tactic(auto, using(std::proofs::Common::append_assoc))]
-fn push_name(text: &mut Vec<u8>, name: &[u8]) -> Result<(), AllocError>
-    ensures { OnOk result (text.new.items ≡ text.old.items ++ name_text name.now) }
-{
-    for byte in name {
-        push_byte(text, *byte)?;
-    }
-    Ok(())
-}
-
-#[tactic(auto, unfolding(crate::specs::ImportTexts::shown_byte))]
-fn push_byte(text: &mut Vec<u8>, byte: u8) -> Result<(), AllocError>
-    ensures { OnOk result (text.new.items ≡ text.old.items ++ shown_byte byte) }
-{
-    if byte.is_ascii_graphic() && byte != b'\\' {
-        return text.extend_from_slice(&[byte]);
-    }
-    let digits = [
-        b'\\',
-        b'0' + byte / 64,
-        b'0' + byte / 8 % 8,
-        b'0' + byte % 8,
-    ];
-    text.extend_from_slice(&digits)
 }

@@ -1,4 +1,4 @@
-//! What the program apetool does: links, loads and maps over any files and any places to print.
+//! What the program apetool does: links, loads, maps and runs scripts over any files and any places to print.
 #![tactic(auto)]
 
 mod command; // a run
@@ -16,6 +16,12 @@ mod dump; // the same, with its image file
 mod text; // the text of a plan
 mod listing; // a file that is shown with its imports
 mod import_text; // the text of imports
+mod byte_text; // and of any bytes
+mod script_words; // the words of a script's run
+mod script; // a file whose script is run
+mod outcome; // the text of how it ends
+mod law; // what holds of the definitions
 
 pub use command::run;
 pub use end::{Cause, End, ReadingFault, end_by};
+pub use law::scripts_have_one_answer;

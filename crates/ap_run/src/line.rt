@@ -67,6 +67,7 @@ fn reading_line(fault: &ReadingFault) -> Line
         ReadingFault::Ape(fault) => ape_line(fault),
         ReadingFault::Pe(fault) => pe_line(fault),
         ReadingFault::Walk(fault) => form_line(b"import", walk_name(fault.cause), 0, fault.at),
+        ReadingFault::Shell { at } => form_line(b"shell", b"Outside", 0, *at),
     }
 }
 

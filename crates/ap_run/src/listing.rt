@@ -1,6 +1,7 @@
 // What PE32+ files import, behind their plans.
 ghost use Rattle.std.specs.Prelude.{◌≡◌, ◌++◌, IfOk};
-ghost use Rattle.ap_run.specs.Listings.{IsListing, IsListed};
+ghost use Rattle.ap_run.specs.Shows.{Answers, Lists};
+ghost use Rattle.ap_run.specs.Whole.{MakesOf, Sized};
 ghost use Rattle.ap_run.specs.ImportTexts.{imports_text};
 ghost use Rattle.ap_run.specs.PlanTexts as spec;
 
@@ -15,7 +16,7 @@ use std::alloc::{AllocError, Global};
 
 /// The text of the plan and the imports of a file, or why there is none. The file is read whole.
 pub fn listing_of<F: Files>(alloc: Global, files: &mut F, name: &str) -> Result<Vec<u8>, Cause>
-    ensures { IsListed (F.state files.old) (F.state files.new) name.now result }
+    ensures { Answers (F.state files.old) (F.state files.new) (Sized Lists) name.now result }
 {
     let size = match measure(files, name) {
         Ok(size) => size,
@@ -30,7 +31,7 @@ pub fn listing_of<F: Files>(alloc: Global, files: &mut F, name: &str) -> Result<
 
 // That of a file's bytes.
 fn listed(alloc: Global, file: &[u8]) -> Result<Vec<u8>, Cause>
-    ensures { IsListing file.now result }
+    ensures { MakesOf Lists file.now result }
 {
     let plan = match PeReading.read(file) {
         Ok(plan) => plan,

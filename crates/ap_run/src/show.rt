@@ -1,6 +1,6 @@
 // Files that are shown.
 ghost use Rattle.ap_elf.specs.Machines.{IsPage};
-ghost use Rattle.ap_run.specs.Shows.{Answers, Ends, Makes, Printed};
+ghost use Rattle.ap_run.specs.Shows.{Answers, Ends, Makes, Printed, ShowsBy};
 
 use crate::end::Cause;
 use crate::format::Format;
@@ -21,7 +21,7 @@ pub fn show<F: Files, O: Sink>(
 ) -> Cause
     requires { IsPage format.now.machine format.now.page }
     ensures { Ends (F.state files.old) (F.state files.new) (O.state out.old) (O.state out.new)
-        format.now name.now result }
+        (ShowsBy format.now) name.now result }
 {
     match text_of(alloc, files, format, name) {
         Ok(text) => print_text(out, &text),
@@ -46,7 +46,7 @@ fn text_of<F: Files>(
     name: &str,
 ) -> Result<Vec<u8>, Cause>
     requires { IsPage format.now.machine format.now.page }
-    ensures { Answers (F.state files.old) (F.state files.new) format.now name.now result }
+    ensures { Answers (F.state files.old) (F.state files.new) (ShowsBy format.now) name.now result }
 {
     if format.imports {
         return listing_of(alloc, files, name);

@@ -5,7 +5,7 @@ mod looks;
 mod sized;
 
 use ap_files::{Files, MemoryFiles, MemorySink, Sink, SteadySink};
-use ap_run::{Cause, End, run};
+use ap_run::{Cause, End, ReadingFault, run};
 use std::alloc::Global;
 use std::process::Abort;
 
@@ -54,6 +54,8 @@ const DUMP: &[&str] = &["load", "--dump", "out", "in"];
 
 const MAP: &[&str] = &["map", "--as", "elf", "in"];
 
+const SCRIPT: &[&str] = &["script", "--system", "Linux", "--machine", "x86_64", "in"];
+
 /// The text of the plan of the program of two loads, once it is linked.
 const TEXT: &[u8] = b"entry 0000000000401000\n\
     0000000000401000 0000000000001000 0000000000001000 0000000000004000 r-x\n\
@@ -73,6 +75,7 @@ fn each_command_does_its_work(rt: HostRuntime) {
         (MAP, &input, b"entry 0000000000401000\n".as_slice()),
         (LOAD, &linked, TEXT),
         (DUMP, &linked, TEXT),
+        (SCRIPT, &linked, b"execs /tmp/ape.1\n"),
     ] {
         let mut files = files_of(&rt, rt.alloc(), file, &[]);
         let mut out = sink(&rt, rt.alloc(), &[]);
@@ -84,6 +87,14 @@ fn each_command_does_its_work(rt: HostRuntime) {
         let is_image = output(&files).len() == 12360 && output(&files).starts_with(IMAGE);
         assert!(rt; is_image || words.get(1) != Some(&"--dump"));
     }
+}
+
+#[test]
+fn a_text_outside_the_grammar_is_refused_at_its_place(rt: HostRuntime) {
+    let mut files = files_of(&rt, rt.alloc(), b": ; a|b", &[]);
+    let end = obey(&rt, rt.alloc(), &mut files, SCRIPT, &mut SteadySink::new());
+    let refusal = ReadingFault::Shell { at: 4 };
+    assert!(rt; end.status == 1 && end.cause == Cause::Unread(refusal));
 }
 
 /// An input, another one, and room for an output. The calls of the list fail.

@@ -1,7 +1,7 @@
 // Files of which only the size may be asked.
 ghost use Rattle.ap_files.specs.Machine.{no_faults, untold_files};
 
-use super::{LINK, LINK_TWO, LOAD, PLAIN, obey};
+use super::{LINK, LINK_TWO, LOAD, PLAIN, SCRIPT, obey};
 use ap_check::Fault;
 use ap_files::{Failed, Files, SteadyFiles, SteadySink};
 use ap_run::{Cause, ReadingFault};
@@ -67,6 +67,7 @@ fn of_a_file_that_is_too_large_only_the_size_is_asked(rt: HostRuntime) {
         (LINK, Some(268435457), fault(1)),
         (LINK_TWO, None, fault(2)),
         (LOAD, Some(1073741825), Cause::Unread(large)),
+        (SCRIPT, Some(1073741825), Cause::Unread(large)),
     ] {
         let mut files = Large {
             files: SteadyFiles::of("in", PLAIN),

@@ -1,14 +1,15 @@
 use Rattle.std.proofs.Common.{subst}
-use Rattle.ap_run.specs.Listings.{IsListing}
-use Rattle.ap_run.proofs.ReadListings.{listed-unmeasured, listed-read}
+use Rattle.ap_run.specs.Shows.{Lists}
+use Rattle.ap_run.specs.Whole.{MakesOf}
+use Rattle.ap_run.proofs.ReadWhole.{whole-unmeasured, whole-read}
 use Rattle.ap_run.proofs.listing.listing_of.Goals as goal
 
 pub returns-in-Err : goal.returns-in-Err
 returns-in-Err g c =
-    listed-unmeasured (g.F.Files.state c.args.files.now) (g.F.Files.state c.measure.new.files) c.args.name.now c.in-Err.cause c.in-Err.ensures
+    whole-unmeasured (g.F.Files.state c.args.files.now) (g.F.Files.state c.measure.new.files) Lists c.args.name.now c.in-Err.cause c.in-Err.ensures
 
 pub returns-in-Ok-read_all : goal.returns-in-Ok-read_all
 returns-in-Ok-read_all g c =
-    listed-read (g.F.Files.state c.args.files.now) (g.F.Files.state c.measure.new.files) (g.F.Files.state c.read_all.new.files) c.args.name.now c.in-Ok-read_all.file.items c.in-Ok.size
+    whole-read (g.F.Files.state c.args.files.now) (g.F.Files.state c.measure.new.files) (g.F.Files.state c.read_all.new.files) Lists c.args.name.now c.in-Ok-read_all.file.items c.in-Ok.size
     c.listed.result c.in-Ok.ensures c.in-Ok-read_all.ensures.bytes
-    (subst (λ bytes. IsListing bytes c.listed.result) c.deref.ensures.value c.listed.ensures)
+    (subst (λ bytes. MakesOf Lists bytes c.listed.result) c.deref.ensures.value c.listed.ensures)
