@@ -40,6 +40,7 @@ DIFFERENCES = [
     ("exec uname a\n", "exits 127", all_of("execs TOOLS/uname|word a")),
     ("exec '' a\n", "exits 127", all_of("exits 126") | {"bash": "exits 127"}),
     # commands
+    ("x=$(command -v missing)\nexit\n", "exits 1", {"dash": "exits 127", "busybox sh": "exits 127"}),
     ("[ a ]\n", "exits 2", all_of("exits 0")),
     ("command true\n", "exits 1", all_of("exits 0") | {"zsh": "exits 127"}),
     ("test a = a\n", "exits 127", all_of("exits 0")),
@@ -54,6 +55,7 @@ DIFFERENCES = [
     ("printf 'a' b >./a\n", "exits 1", all_of("exits 0")),
     ("printf >./a\n", "exits 1", dict.fromkeys(("dash", "bash", "busybox sh"), "exits 2")),
     ('dd if="$0" of=./a bs=1 skip=0 count=1 2>/dev/null\n', "exits 1", all_of("exits 0")),
-    # what is read behind a stopping command
+    # what is read
+    ("in a\nexit\n", "exits 127", all_of("exits 2") | {"zsh": "exits 127", "mksh": "exits 1"}),
     ("exit 3; )\n", "exits 3", all_of("exits 2") | {"zsh": "exits 1", "mksh": "exits 1"}),
 ]
