@@ -97,7 +97,7 @@ one-ready options e a is none =
     record {
       none = none;
       bytes = ap (λ (x : Taken). block_for options x None ++ tail_of x a None) is.1 ∙ sym (linked-is options a None able);
-      linked = file-linked options a None able;
+      linked = file-linked options a None none;
       size = ap (λ (x : Taken). (positions_of options x None).total) is.1 ∙ sym (file-length options (input_of 1 a) a None able) ∙ sym (ap length (linked-is options a None able));
     }
 
@@ -110,7 +110,7 @@ two-ready options e s a b is and none =
       bytes = ap (λ (x : Taken). block_for options x (Some f) ++ tail_of x a (Some (f, b))) is.1
           ∙ ap (λ (x : Taken). block_for options (input_of 1 a) (Some x) ++ tail_of (input_of 1 a) a (Some (x, b))) and.1
           ∙ sym (linked-is options a (Some b) able);
-      linked = file-linked options a (Some b) able;
+      linked = file-linked options a (Some b) none;
       size = ap (λ (x : Taken). (positions_of options x (Some f)).total) is.1
           ∙ ap (λ (x : Taken). (positions_of options (input_of 1 a) (Some x)).total) and.1
           ∙ sym (file-length options (input_of 1 a) a (Some (input_of 2 b, b)) able) ∙ sym (ap length (linked-is options a (Some b) able));

@@ -27,3 +27,5 @@ pub mod PePerms
 pub mod PeSections
 pub mod PeWalk
 pub mod PeImageProof
+pub mod ImportDirectories
+pub mod LinkedImports

@@ -13,12 +13,14 @@ use Rattle.ap_fields.specs.FirstFault.{Rules, first_fault}
 use Rattle.ap_fields.proofs.FirstFaults.{append-none}
 use Rattle.ap_check.specs.declared.fault.Fault.{Fault}
 use Rattle.ap_check.specs.declared.options.Options.{Options}
+use Rattle.ap_check.specs.Options.{for_windows}
 use Rattle.ap_check.specs.Rules.{fault_of, rules_of}
 use Rattle.ap_check.specs.Windows.{windows_rules, AreReady}
 use Rattle.ap_check.specs.Both.{machines_rules, x64_bytes, first_fault_of_both}
 use Rattle.ap_check.proofs.Laws.{input_meets}
 use Rattle.ap_check.proofs.Pairs.{pair-says}
 use Rattle.ap_check.proofs.WindowsLemmas.{windows-ready}
+use Rattle.ap_elf.specs.declared.machine.Machine.TheVariants.{X64}
 use Rattle.ap_elf.specs.Machines.{granule_of, number_of}
 use Rattle.ap_check.specs.Inputs.{Taken, Meets, input_of, taken_of, loads_of, inputs_of}
 use Rattle.ap_loader.specs.Embedded.{has_magic, taken}
@@ -27,7 +29,7 @@ use Rattle.ap_loader.specs.declared.fault.ApeFault.TheVariants.{NoMagic}
 use Rattle.ap_elf.specs.ElfReading.{elf_reading}
 use Rattle.ap_layout.specs.declared.layout.Area.{Area}
 use Rattle.ap_layout.specs.Areas.{end_from}
-use Rattle.ap_layout.specs.Positions.{Positions, Fits, positions_of, placed_inputs, input_areas, tables_start, table_length}
+use Rattle.ap_layout.specs.Positions.{Positions, PlacedInput, Fits, positions_of, placed_inputs, input_areas, tables_start, table_length}
 use Rattle.ap_layout.proofs.Rounded.{granule_of-is}
 use Rattle.ap_layout.proofs.NewAreas.{end-least}
 use Rattle.ap_layout.proofs.HeaderLengths.{pe_length-most}
@@ -45,6 +47,7 @@ use Rattle.ap_script.proofs.StatementPlaces.{opens-only, parts-block}
 use Rattle.ap_script.proofs.InputStatements.{count-places, places-order, header_for-input}
 use Rattle.ap_link.specs.Same.{Same, nothing_else}
 use Rattle.ap_link.specs.LinkedIn.{HoldAll, IsLinkedIn}
+use Rattle.ap_link.specs.PeImages.{IsPeIn}
 use Rattle.ap_link.specs.Linked.{input_text, input_end, tail_of, block_for, second_of, taken_second, linked_text}
 use Rattle.ap_link.specs.LinkedClaims.{linked_claims, tail_claims, linked_of}
 use Rattle.ap_link.specs.Answers.{Carries, IsLinked}
@@ -52,7 +55,8 @@ use Rattle.ap_link.proofs.ClaimedFiles.{text-end, whole-claimed}
 use Rattle.ap_pe.specs.Linked.{program_of}
 use Rattle.ap_link.proofs.LinkedImages.{elf-is-same, ape-is-same}
 use Rattle.ap_link.proofs.PeImageProof.{pe-is-same}
-use Rattle.ap_link.proofs.PeLinked.{pe-in}
+use Rattle.ap_link.proofs.PeLinked.{pe-in, windows-met}
+use Rattle.ap_link.proofs.LinkedImports.{MeetsImports, MeetImports, imports-carried, meet-imports}
 use Rattle.ap_link.proofs.PlacedTexts.{text-held}
 use Rattle.ap_link.proofs.TakenStatements.{block-magic, taken-block}
 
@@ -241,12 +245,15 @@ ape-by m page place file header magic is =
 
 carries : (options : Options) (inputs : List Taken) (l : Positions) (rest : List ℕ) (n table : ℕ) (b : List ℕ) (areas : List Area)
     → All (λ i. Meets i) inputs → MachinesDiffer inputs → Fits options inputs l → IsOneOf (record { input = input_of n b; areas = areas; table = table }) (placed_inputs inputs l)
-    → IsLinkedIn (input_of n b) (entries_of b) (bytes_in b) areas table (block_of options inputs l ++ rest)
+    → IsLinkedIn (input_of n b) (entries_of b) (bytes_in b) areas table (block_of options inputs l ++ rest) → MeetsImports options b (input_of n b)
     → Carries options b (input_of n b) table (statement_place options inputs l (input_of n b).machine) (block_of options inputs l ++ rest)
-carries options inputs l rest n table b areas meets differ fits has linked =
+carries options inputs l rest n table b areas meets differ fits has linked imports =
     let e : Taken = input_of n b in
     let file : List ℕ = block_of options inputs l ++ rest in
-    let header = header_for-input options inputs l (record { input = e; areas = areas; table = table }) differ fits has in
+    let placed : PlacedInput = record { input = e; areas = areas; table = table } in
+    let header = header_for-input options inputs l placed differ fits has in
+    let within : for_windows options ≡ true → e.machine ≡ X64 → IsPeIn e (entries_of b) (bytes_in b) areas table (program_of e) file =
+    pe-in options inputs l rest placed (entries_of b) (bytes_in b) meets differ fits has linked in
     let start = entry-taken n b in
     record {
       text = parts-holds file (statement_place options inputs l e.machine) (embedded_bytes e table) (parts-block options inputs l rest e.machine (embedded_bytes e table) fits header);
@@ -258,8 +265,8 @@ carries options inputs l rest n table b areas meets differ fits has linked =
           (taken-block options inputs l rest e.machine (embedded_bytes e table) meets fits header)))
           (same-as_ape (granule_of e.machine) (bytes_in b) (loads_in (entries_of b)) e.entry nothing_else (reading_over (number_of e.machine) page file (embedded_bytes e table))
           (ape-is-same e (entries_of b) (bytes_in b) areas table file page linked is)));
-      pe = λ chosen machine. pe-is-same e (entries_of b) (bytes_in b) areas table (program_of e) file
-          (pe-in options inputs l rest (record { input = e; areas = areas; table = table }) (entries_of b) (bytes_in b) meets differ fits has linked chosen machine);
+      pe = λ chosen machine. pe-is-same e (entries_of b) (bytes_in b) areas table (program_of e) file (within chosen machine);
+      imports = λ chosen machine. imports-carried e b areas table file (windows-met options inputs l placed differ fits has chosen machine) (within chosen machine) (imports chosen machine);
     }
 
 -- ---- the whole
@@ -286,9 +293,9 @@ linked-is options a (Some b) h =
     let o : Option (Taken × List ℕ) = Some (input_of 2 b, b) in
     sym (files-made (positions_of options (input_of 1 a) (bare-of o)).total (linked_claims options a (Some b)) (file-of options (input_of 1 a) a o) (claimed-file options (input_of 1 a) a o h))
 
-text-linked : (options : Options) (a : List ℕ) (b : Option (List ℕ)) → AreLinkable options (input_of 1 a) (taken_second b) → IsLinked options a b (linked_text options a b)
+text-linked : (options : Options) (a : List ℕ) (b : Option (List ℕ)) → AreLinkable options (input_of 1 a) (taken_second b) → MeetImports options a b → IsLinked options a b (linked_text options a b)
 unfolding linked_text
-text-linked options a None h =
+text-linked options a None h imports =
     let e : Taken = input_of 1 a in
     let l : Positions = positions_of options e None in
     let fits = positions-fit options e None h.ready h.first h.second in
@@ -303,12 +310,13 @@ text-linked options a None h =
       order = places-order options (inputs_of e None) l;
       only = λ k. opens-only options (inputs_of e None) l (tail_of e a None) k meets fits;
       count = count-places options (inputs_of e None) l differ fits;
-      first = carries options (inputs_of e None) l (tail_of e a None) 1 (tables_start options (inputs_of e None)) a (input_areas e BLOCK) meets differ fits (first-placed options e None) (first-linked options 1 a None h);
+      first = carries options (inputs_of e None) l (tail_of e a None) 1 (tables_start options (inputs_of e None)) a (input_areas e BLOCK) meets differ fits (first-placed options e None) (first-linked options 1 a None h)
+          imports.first;
       second = tt;
       claims = claimed-file options e a None h;
       agree = claims-agree l.total (linked_claims options a None) (linked_text options a None) (claimed-file options e a None h);
     }
-text-linked options a (Some b) h =
+text-linked options a (Some b) h imports =
     let e : Taken = input_of 1 a in
     let f : Taken = input_of 2 b in
     let o : Option (Taken × List ℕ) = Some (f, b) in
@@ -326,15 +334,12 @@ text-linked options a (Some b) h =
       only = λ k. opens-only options (inputs_of e (Some f)) l (tail_of e a o) k meets fits;
       count = count-places options (inputs_of e (Some f)) l differ fits;
       first = carries options (inputs_of e (Some f)) l (tail_of e a o) 1 (tables_start options (inputs_of e (Some f))) a (input_areas e BLOCK) meets differ fits
-          (first-placed options e (Some f)) (first-linked options 1 a o h);
+          (first-placed options e (Some f)) (first-linked options 1 a o h) imports.first;
       second = carries options (inputs_of e (Some f)) l (tail_of e a o) 2 (tables_start options (inputs_of e (Some f)) + table_length e) b (input_areas f (input_end e)) meets differ fits
-          (second-placed options e f) (second-linked options 2 e a b h);
+          (second-placed options e f) (second-linked options 2 e a b h) imports.second;
       claims = claimed-file options e a o h;
       agree = claims-agree l.total (linked_claims options a (Some b)) (linked_text options a (Some b)) (claimed-file options e a o h);
     }
-
-pub file-linked : (options : Options) (a : List ℕ) (b : Option (List ℕ)) → AreLinkable options (input_of 1 a) (taken_second b) → IsLinked options a b (linked_of options a b)
-file-linked options a b h = let made = text-linked options a b h in subst (IsLinked options a b) made.bytes made
 
 -- ---- inputs that break no rule
 
@@ -367,3 +372,20 @@ both-linkable options a (Some b) none =
       second = input_meets 2 b two.0;
       differ = machines-apart e f taken.0;
     }
+
+-- of which those that Windows asks
+windows-pass : (options : Options) (a : List ℕ) (b : Option (List ℕ)) → first_fault_of_both options a b ≡ None
+    → first_fault (windows_rules options (inputs_of (input_of 1 a) (taken_second b)) (x64_bytes (input_of 1 a) a b)) ≡ None
+windows-pass options a None none = (append-none (rules_of 1 a) (windows_rules options (input_of 1 a ∷ []) a) none).1
+windows-pass options a (Some b) none =
+    let windows = windows_rules options (input_of 1 a ∷ input_of 2 b ∷ []) (x64_bytes (input_of 1 a) a (Some b)) in
+    let machines = machines_rules (header_of a).e_machine (header_of b).e_machine in
+    let one = append-none (rules_of 1 a) (rules_of 2 b ++ (machines ++ windows)) none in
+    (append-none machines windows (append-none (rules_of 2 b) (machines ++ windows) one.1).1).1
+
+-- the linked file of such inputs
+pub file-linked : (options : Options) (a : List ℕ) (b : Option (List ℕ)) → first_fault_of_both options a b ≡ None → IsLinked options a b (linked_of options a b)
+file-linked options a b none =
+    let able = both-linkable options a b none in
+    let made = text-linked options a b able (meet-imports options a b able.differ (windows-pass options a b none)) in
+    subst (IsLinked options a b) made.bytes made

@@ -41,14 +41,24 @@ input-is o p e is same h =
     let found : Some p.input ≡ e = ap (option_map (λ (q : PlacedInput). q.input)) (sym is) ∙ same in
     subst (λ (x : Option Taken). IsSomeAnd x MeetsWindows) (sym found) h
 
+-- it is the one for which places are found
+x64-is : (options : Options) (inputs : List Taken) (l : Positions) (p : PlacedInput) → MachinesDiffer inputs → Fits options inputs l → IsOneOf p (placed_inputs inputs l) → p.input.machine ≡ X64
+    → placed_for X64 (placed_inputs inputs l) ≡ Some p
+x64-is options inputs l p differ fits has machine = ap (λ m. placed_for m (placed_inputs inputs l)) (sym machine) ∙ placed_for-input options inputs l p differ fits has
+
+-- it meets what Windows asks, where that was chosen
+pub windows-met : (options : Options) (inputs : List Taken) (l : Positions) (p : PlacedInput) → MachinesDiffer inputs → Fits options inputs l → IsOneOf p (placed_inputs inputs l) → for_windows options ≡ true
+    → p.input.machine ≡ X64 → MeetsWindows p.input
+windows-met options inputs l p differ fits has chosen machine =
+    input-is (placed_for X64 (placed_inputs inputs l)) p (x64_of inputs) (x64-is options inputs l p differ fits has machine) (found-in options inputs l fits).1 (fits.windows chosen)
+
 pub pe-in : (options : Options) (inputs : List Taken) (l : Positions) (rest : List ℕ) (p : PlacedInput) (entries : List Entry) (byte : ℕ → ℕ) → All (λ i. Meets i) inputs → MachinesDiffer inputs → Fits options inputs l
     → IsOneOf p (placed_inputs inputs l) → IsLinkedIn p.input entries byte p.areas p.table (block_of options inputs l ++ rest) → for_windows options ≡ true → p.input.machine ≡ X64
     → IsPeIn p.input entries byte p.areas p.table (program_of p.input) (block_of options inputs l ++ rest)
 pe-in options inputs l rest p entries byte meets differ fits has linked chosen machine =
     let e : Taken = p.input in
-    let ps = placed_inputs inputs l in
-    let is : placed_for X64 ps ≡ Some p = ap (λ m. placed_for m ps) (sym machine) ∙ placed_for-input options inputs l p differ fits has in
-    let windows : MeetsWindows e = input-is (placed_for X64 ps) p (x64_of inputs) is (found-in options inputs l fits).1 (fits.windows chosen) in
+    let is = x64-is options inputs l p differ fits has machine in
+    let windows = windows-met options inputs l p differ fits has chosen machine in
     let entry = entry-within e linked.meets windows in
     let claims = claims_of (Some p) in
     record {

@@ -27,6 +27,7 @@ use Rattle.ap_link.specs.declared.fault.LinkFault.{LinkFault}
 use Rattle.ap_link.specs.declared.fault.LinkFault.TheVariants as fault
 use Rattle.ap_link.specs.Same.{Same, nothing_else}
 use Rattle.ap_link.specs.PeImages.{pe_else}
+use Rattle.ap_link.specs.Imported.{CarriesImports}
 use Rattle.ap_link.specs.Linked.{taken_second}
 use Rattle.ap_link.specs.LinkedClaims.{linked_claims, linked_of}
 
@@ -44,7 +45,8 @@ body_in options a b = body_of options (inputs_in a b) (positions_in options a b)
 -- what stands of an input of these bytes, taken as e, in a file where its program header table has a place: the statement of
 -- its embedded header stands at its place, and what the readings find at each page size, in the file with that header over
 -- its first bytes and in the file itself, is the input's image; and so is, of an input for x86-64 where Windows was chosen, what the
--- PE reading finds, with the PE headers and the gaps between loads beside it, and the entry that a symbol tells
+-- PE reading finds, with the PE headers and the gaps between loads beside it, and the entry that a symbol tells; and the file
+-- imports what that input imports
 pub record Carries (options : Options) (input : List ℕ) (e : Taken) (table statement : ℕ) (file : List ℕ) : Type 0 where
   pub text : Holds file statement (statement_of (embedded_bytes e table))
   pub elf : (page : ℕ) → IsPage e.machine page
@@ -53,6 +55,7 @@ pub record Carries (options : Options) (input : List ℕ) (e : Taken) (table sta
       → Same (granule_of e.machine) (bytes_in input) (loads_in (entries_of input)) (header_of input).e_entry nothing_else (ape_reading (number_of e.machine) page file)
   pub pe : for_windows options ≡ true → e.machine ≡ X64
       → Same SECTION_ALIGNMENT (bytes_in input) (loads_in (entries_of input)) (pe_entry_of e) (pe_else (bytes_in file) (base_of e) e.loads) (pe_reading file)
+  pub imports : for_windows options ≡ true → e.machine ≡ X64 → CarriesImports input e file
 
 abbrev pub CarriesFirst : Options → List ℕ → Option (List ℕ) → List ℕ → Type 0
 CarriesFirst options a b file =
