@@ -14,11 +14,12 @@ use Rattle.ap_fields.proofs.FirstFaults.{append-none}
 use Rattle.ap_check.specs.declared.fault.Fault.{Fault}
 use Rattle.ap_check.specs.declared.options.Options.{Options}
 use Rattle.ap_check.specs.Rules.{fault_of, rules_of}
-use Rattle.ap_check.specs.Windows.{windows_rules, AreReady}
+use Rattle.ap_check.specs.Windows.{AreReady}
+use Rattle.ap_check.specs.Mac.{system_rules, AreForMac}
 use Rattle.ap_check.specs.Both.{machines_rules, x64_bytes, first_fault_of_both}
 use Rattle.ap_check.proofs.Laws.{input_meets}
 use Rattle.ap_check.proofs.Pairs.{pair-says}
-use Rattle.ap_check.proofs.WindowsLemmas.{windows-ready}
+use Rattle.ap_check.proofs.SystemRules.{systems-ready}
 use Rattle.ap_elf.specs.Machines.{granule_of, number_of}
 use Rattle.ap_check.specs.Inputs.{Taken, Meets, input_of, taken_of, loads_of, inputs_of}
 use Rattle.ap_loader.specs.Embedded.{has_magic, taken}
@@ -68,6 +69,7 @@ loads-taken n b = refl
 -- one or two inputs that may be linked
 pub record AreLinkable (options : Options) (e : Taken) (o : Option Taken) : Type 0 where
   pub ready : AreReady options (inputs_of e o)
+  pub mac : AreForMac options (inputs_of e o)
   pub first : Meets e
   pub second : IfSome o (λ f. Meets f)
   pub differ : IfSome o (λ f. e.machine ≢ f.machine)
@@ -120,15 +122,15 @@ file-of options e a o = block_for options e (bare-of o) ++ tail_of e a o
 
 pub file-length : (options : Options) (e : Taken) (a : List ℕ) (o : Option (Taken × List ℕ)) → AreLinkable options e (bare-of o) → length (file-of options e a o) ≡ (positions_of options e (bare-of o)).total
 file-length options e a o h =
-    let fits = positions-fit options e (bare-of o) h.ready h.first h.second in
+    let fits = positions-fit options e (bare-of o) h.ready h.mac h.first h.second in
     linked-length options e a o (positions_of options e (bare-of o)) (block_for options e (bare-of o)) (length-block options (inputs_of e (bare-of o)) (positions_of options e (bare-of o)) fits) (total-is options e o)
 
 total-small : (options : Options) (e : Taken) (o : Option Taken) → AreLinkable options e o → (positions_of options e o).total < 2 ^ 31
-total-small options e o h = (positions-fit options e o h.ready h.first h.second).small
+total-small options e o h = (positions-fit options e o h.ready h.mac h.first h.second).small
 
 total-past : (options : Options) (e : Taken) (a : List ℕ) (o : Option (Taken × List ℕ)) → AreLinkable options e (bare-of o) → BLOCK ≤ length (file-of options e a o)
 total-past options e a o h =
-    let fits = positions-fit options e (bare-of o) h.ready h.first h.second in
+    let fits = positions-fit options e (bare-of o) h.ready h.mac h.first h.second in
     let l1 = length-block options (inputs_of e (bare-of o)) (positions_of options e (bare-of o)) fits in
     let l2 = length-append (block_for options e (bare-of o)) (tail_of e a o) in
     omega arith
@@ -138,13 +140,13 @@ total-past options e a o h =
 first-held : (options : Options) (e : Taken) (a : List ℕ) (o : Option (Taken × List ℕ)) → AreLinkable options e (bare-of o)
     → HoldAll (granule_of e.machine) (bytes_in a) (file-of options e a o) e.loads (input_areas e BLOCK)
 first-held options e a None h =
-    let fits = positions-fit options e None h.ready h.first h.second in
+    let fits = positions-fit options e None h.ready h.mac h.first h.second in
     let w : List ℕ = block_for options e None in
     let t : List ℕ = input_text BLOCK e a in
     subst (λ x. HoldAll (granule_of e.machine) (bytes_in a) (w ++ x) e.loads (input_areas e BLOCK)) (append-nil t)
     (text-held 0 (granule_of e.machine) (bytes_in a) e.loads BLOCK w [] (granule_of-is e.machine) (omega arith) (length-block options (inputs_of e None) (positions_of options e None) fits))
 first-held options e a (Some (f, b)) h =
-    let fits = positions-fit options e (Some f) h.ready h.first h.second in
+    let fits = positions-fit options e (Some f) h.ready h.mac h.first h.second in
     text-held 0 (granule_of e.machine) (bytes_in a) e.loads BLOCK (block_for options e (Some f)) (input_text (input_end e) f b) (granule_of-is e.machine) (omega arith)
     (length-block options (inputs_of e (Some f)) (positions_of options e (Some f)) fits)
 
@@ -157,7 +159,7 @@ first-linked : (options : Options) (n : ℕ) (a : List ℕ) (o : Option (Taken �
     → IsLinkedIn (input_of n a) (entries_of a) (bytes_in a) (input_areas (input_of n a) BLOCK) (tables_start options (inputs_of (input_of n a) (bare-of o))) (file-of options (input_of n a) a o)
 first-linked options n a o h =
     let e : Taken = input_of n a in
-    let fits = positions-fit options e (bare-of o) h.ready h.first h.second in
+    let fits = positions-fit options e (bare-of o) h.ready h.mac h.first h.second in
     let most = table-most e h.first in
     let pe = pe_length-most options (inputs_of e (bare-of o)) (all-meet options e (bare-of o) h) in
     let size = file-length options e a o h in
@@ -178,7 +180,7 @@ first-linked options n a o h =
 second-held : (options : Options) (e f : Taken) (a b : List ℕ) → AreLinkable options e (Some f)
     → HoldAll (granule_of f.machine) (bytes_in b) (file-of options e a (Some (f, b))) f.loads (input_areas f (input_end e))
 second-held options e f a b h =
-    let fits = positions-fit options e (Some f) h.ready h.first h.second in
+    let fits = positions-fit options e (Some f) h.ready h.mac h.first h.second in
     let w : List ℕ = block_for options e (Some f) in
     let t : List ℕ = input_text BLOCK e a in
     let u : List ℕ = input_text (input_end e) f b in
@@ -199,7 +201,7 @@ second-linked : (options : Options) (n : ℕ) (e : Taken) (a b : List ℕ) → A
     → IsLinkedIn (input_of n b) (entries_of b) (bytes_in b) (input_areas (input_of n b) (input_end e)) (tables_start options (inputs_of e (Some (input_of n b))) + table_length e) (file-of options e a (Some (input_of n b, b)))
 second-linked options n e a b h =
     let f : Taken = input_of n b in
-    let fits = positions-fit options e (Some f) h.ready h.first h.second in
+    let fits = positions-fit options e (Some f) h.ready h.mac h.first h.second in
     let one = table-most e h.first in
     let two = table-most f h.second in
     let pe = pe_length-most options (inputs_of e (Some f)) (all-meet options e (Some f) h) in
@@ -275,7 +277,7 @@ claimed-file : (options : Options) (e : Taken) (a : List ℕ) (o : Option (Taken
     → IsFile (positions_of options e (bare-of o)).total (block_claims options (inputs_of e (bare-of o)) (positions_of options e (bare-of o)) ++ tail_claims e a o) (file-of options e a o)
 claimed-file options e a o h =
     whole-claimed (block_for options e (bare-of o)) (block_claims options (inputs_of e (bare-of o)) (positions_of options e (bare-of o))) e a o (positions_of options e (bare-of o)).total
-    (block-claimed options (inputs_of e (bare-of o)) (positions_of options e (bare-of o)) (positions-fit options e (bare-of o) h.ready h.first h.second)) (file-length options e a o h)
+    (block-claimed options (inputs_of e (bare-of o)) (positions_of options e (bare-of o)) (positions-fit options e (bare-of o) h.ready h.mac h.first h.second)) (file-length options e a o h)
 
 -- the file as it is written is the file of its claims
 pub linked-is : (options : Options) (a : List ℕ) (b : Option (List ℕ)) → AreLinkable options (input_of 1 a) (taken_second b)
@@ -291,7 +293,7 @@ unfolding linked_text
 text-linked options a None h =
     let e : Taken = input_of 1 a in
     let l : Positions = positions_of options e None in
-    let fits = positions-fit options e None h.ready h.first h.second in
+    let fits = positions-fit options e None h.ready h.mac h.first h.second in
     let meets = all-meet options e None h in
     let differ = machines-differ options e None h in
     record {
@@ -313,7 +315,7 @@ text-linked options a (Some b) h =
     let f : Taken = input_of 2 b in
     let o : Option (Taken × List ℕ) = Some (f, b) in
     let l : Positions = positions_of options e (Some f) in
-    let fits = positions-fit options e (Some f) h.ready h.first h.second in
+    let fits = positions-fit options e (Some f) h.ready h.mac h.first h.second in
     let meets = all-meet options e (Some f) h in
     let differ = machines-differ options e (Some f) h in
     record {
@@ -350,19 +352,22 @@ machines-apart e f none same =
 pub both-linkable : (options : Options) (a : List ℕ) (b : Option (List ℕ)) → first_fault_of_both options a b ≡ None → AreLinkable options (input_of 1 a) (taken_second b)
 both-linkable options a None none =
     let e : Taken = input_of 1 a in
-    let two = append-none (rules_of 1 a) (windows_rules options (e ∷ []) a) none in
-    record { ready = windows-ready options (e ∷ []) a two.1; first = input_meets 1 a two.0; second = tt; differ = tt }
+    let two = append-none (rules_of 1 a) (system_rules options (e ∷ []) a) none in
+    let systems = systems-ready options (e ∷ []) a two.1 in
+    record { ready = systems.0; mac = systems.1; first = input_meets 1 a two.0; second = tt; differ = tt }
 both-linkable options a (Some b) none =
     let e : Taken = input_of 1 a in
     let f : Taken = input_of 2 b in
     let bytes = x64_bytes e a (Some b) in
-    let windows = windows_rules options (e ∷ f ∷ []) bytes in
-    let together : Rules Fault = machines_rules (header_of a).e_machine (header_of b).e_machine ++ windows in
+    let systems = system_rules options (e ∷ f ∷ []) bytes in
+    let together : Rules Fault = machines_rules (header_of a).e_machine (header_of b).e_machine ++ systems in
     let one = append-none (rules_of 1 a) (rules_of 2 b ++ together) none in
     let two = append-none (rules_of 2 b) together one.1 in
-    let taken = append-none (machines_rules (number_of e.machine) (number_of f.machine)) windows (sym (pair-says options a (Some b) e (Some f) ((one.0, refl), (two.0, refl))) ∙ none) in
+    let taken = append-none (machines_rules (number_of e.machine) (number_of f.machine)) systems (sym (pair-says options a (Some b) e (Some f) ((one.0, refl), (two.0, refl))) ∙ none) in
+    let ready = systems-ready options (e ∷ f ∷ []) bytes taken.1 in
     record {
-      ready = windows-ready options (e ∷ f ∷ []) bytes taken.1;
+      ready = ready.0;
+      mac = ready.1;
       first = input_meets 1 a one.0;
       second = input_meets 2 b two.0;
       differ = machines-apart e f taken.0;
