@@ -1,0 +1,4 @@
+pub mod Format
+pub mod MachReading
+pub mod Stages
+pub mod Looks
