@@ -43,27 +43,34 @@ record IsRoom (b room : List ℕ) (at end count : ℕ) : Type 0 where
   pub low : at ≤ end
   pub fits : end ≤ length b
 
-byte-room : (b room : List ℕ) (at end count i : ℕ) → IsRoom b room at end count → i < 184 → slice_index room i ≡ slice_index (take end b) (at + i)
-byte-room b room at end count i r low =
-    let few = r.few in
-    let order = r.low in
-    let fits = r.fits in
+byte-inside : (b : List ℕ) (at end count i : ℕ) → count ≤ end - at → at ≤ end → end ≤ length b → i < count
+    → slice_index (take count (drop at b) ++ drop count (replicate 184 0)) i ≡ slice_index (take end b) (at + i)
+byte-inside b at end count i few order fits inside =
+    let l1 = length-take count (drop at b) in
+    let l2 = length-drop at b in
+    get_or_append_left (take count (drop at b)) (drop count (replicate 184 0)) 0 i (omega arith)
+    ∙ get_or-take count (drop at b) i 0 inside
+    ∙ get_or-drop at b i 0
+    ∙ sym (get_or-take end b (at + i) 0 (omega arith))
+
+byte-past : (b : List ℕ) (at end count i : ℕ) → count ≡ end - at → at ≤ end → end ≤ length b → count ≤ i → i < 184
+    → slice_index (take count (drop at b) ++ drop count (replicate 184 0)) i ≡ slice_index (take end b) (at + i)
+byte-past b at end count i few order fits past low =
     let l1 = length-take count (drop at b) in
     let l2 = length-drop at b in
     let l3 = length-take end b in
-    let long : length (take count (drop at b)) ≡ count = omega arith in
-    let shown : List ℕ = take count (drop at b) ++ drop count (replicate 184 0) in
-    let same : slice_index shown i ≡ slice_index (take end b) (at + i) = elim (cases_lt i count) [
-      | inl inside ↦
-          get_or_append_left (take count (drop at b)) (drop count (replicate 184 0)) 0 i (omega arith)
-          ∙ get_or-take count (drop at b) i 0 inside
-          ∙ get_or-drop at b i 0
-          ∙ sym (get_or-take end b (at + i) 0 (omega arith))
-      | inr past ↦
-          get_or-append_right (take count (drop at b)) (drop count (replicate 184 0)) count i 0 long past
-          ∙ get_or-drop count (replicate 184 0) (i - count) 0
-          ∙ get_or-replicate 184 (count + (i - count)) 0 0 (omega arith)
-          ∙ sym (get_or_past (take end b) (at + i) 0 (omega arith))
+    get_or-append_right (take count (drop at b)) (drop count (replicate 184 0)) count i 0 (omega arith) past
+    ∙ get_or-drop count (replicate 184 0) (i - count) 0
+    ∙ get_or-replicate 184 (count + (i - count)) 0 0 (omega arith)
+    ∙ sym (get_or_past (take end b) (at + i) 0 (omega arith))
+
+byte-room : (b room : List ℕ) (at end count i : ℕ) → IsRoom b room at end count → i < 184 → slice_index room i ≡ slice_index (take end b) (at + i)
+byte-room b room at end count i r low =
+    let few = r.few in
+    let same : slice_index (take count (drop at b) ++ drop count (replicate 184 0)) i ≡ slice_index (take end b) (at + i) =
+    elim (cases_lt i count) [
+      | inl inside ↦ byte-inside b at end count i (omega arith) r.low r.fits inside
+      | inr past ↦ byte-past b at end count i (omega arith) r.low r.fits past low
     ] in
     ap (λ (l : List ℕ). slice_index l i) r.is ∙ same
 

@@ -84,12 +84,13 @@ kind_rules len k low n before p =
     if is_segment p then segment_rules len k low n p.front.size p.segment
     else (if is_thread p then thread_rules k before p.front.size p.thread else [])
 
--- of the command number k, where the commands end at `end`
+-- of the command number k, whatever its kind, where the commands end at `end`
+abbrev pub front_rules : ℕ → ℕ → Command → Rules MachFault
+front_rules end k c =
+    (is_whole end c, refusal CommandSize k c.at) ∷ (not (is_dynamic c), refusal Dynamic k c.kind) ∷ []
+
 abbrev pub command_rules : ℕ → ℕ → ℕ → ℕ → ℕ → Bool → CommandParts → Rules MachFault
-command_rules len end k low n before p =
-    (is_whole end p.front, refusal CommandSize k p.front.at)
-    ∷ (not (is_dynamic p.front), refusal Dynamic k p.front.kind)
-    ∷ kind_rules len k low n before p
+command_rules len end k low n before p = front_rules end k p.front ++ kind_rules len k low n before p
 
 -- where the last segment that maps something ends, and how many there are, behind a segment and behind a command
 abbrev pub low_after : ℕ → SegmentCommand → ℕ

@@ -53,8 +53,9 @@ pub fn parts_in<F: Files>(
     requires size { HasSize (F.state files.old).kept name.now size }
     requires from { at ≤ end }
     requires end { end ≤ size }
-    ensures { Reads (F.state files.old) (F.state files.new) name.now
+    ensures read { Reads (F.state files.old) (F.state files.new) name.now
         (λ b found. found ≡ parts_at (take end b) at) result }
+    ensures place { IfOk result (λ found. found.front.at ≡ at) }
 {
     let mut room = [0; THREAD_SIZE];
     let count = (end - at).min(THREAD_SIZE as u64) as usize;

@@ -25,7 +25,8 @@ pub fn header(b: &[u8]) -> MachHeader
 #[tactic(auto, unfolding(crate::specs::Format::command_by))]
 pub fn front(at: u64, b: &[u8], from: usize) -> Command
     requires { from + COMMAND_SIZE ≤ length b.now }
-    ensures { result ≡ command_by at b.now from }
+    ensures is { result ≡ command_by at b.now from }
+    ensures place { result.at ≡ at }
 {
     Command {
         kind: le32(b, from),
@@ -34,7 +35,7 @@ pub fn front(at: u64, b: &[u8], from: usize) -> Command
     }
 }
 
-/// The fields of a segment command that bytes begin with.
+// The fields of a segment command that bytes begin with.
 #[tactic(auto, unfolding(crate::specs::Format::segment_at))]
 fn segment(b: &[u8]) -> SegmentCommand
     requires { SEGMENT_SIZE ≤ length b.now }
@@ -49,7 +50,7 @@ fn segment(b: &[u8]) -> SegmentCommand
     }
 }
 
-/// The fields of a thread command that bytes begin with.
+// The fields of a thread command that bytes begin with.
 #[tactic(auto, unfolding(crate::specs::Format::thread_at))]
 fn thread(b: &[u8]) -> ThreadCommand
     requires { THREAD_SIZE ≤ length b.now }
@@ -66,7 +67,8 @@ fn thread(b: &[u8]) -> ThreadCommand
 #[tactic(auto, unfolding(crate::specs::Format::parts_by))]
 pub fn parts(at: u64, b: &[u8]) -> CommandParts
     requires { THREAD_SIZE ≤ length b.now }
-    ensures { result ≡ parts_by at b.now 0 }
+    ensures is { result ≡ parts_by at b.now 0 }
+    ensures place { result.front.at ≡ at }
 {
     CommandParts {
         front: front(at, b, 0),

@@ -2,9 +2,8 @@
 ghost use Rattle.std.specs.Prelude.{◌≡◌, ◌+◌, ◌≤◌, ◌<◌, ◌==◌, ◌&&◌, ◌||◌, ◌∷◌, [], not, nat_le, OnOk, true};
 ghost use Rattle.ap_elf.specs.declared.constants.TheConstants.{ADDRESS_TOP};
 ghost use Rattle.ap_image.specs.declared.plan.TheConstants.{MOST_REGIONS};
-ghost use Rattle.ap_mach.specs.declared.fault.MachCause.TheVariants as cause;
 ghost use Rattle.ap_mach.specs.MachReading as spec;
-ghost use Rattle.ap_mach.specs.MachReading.{Checks, header_rules, is_whole, is_dynamic, segment_rules, thread_rules};
+ghost use Rattle.ap_mach.specs.MachReading.{Checks, header_rules, front_rules, segment_rules, thread_rules};
 ghost use Rattle.ap_mach.specs.Stages.{IsTaken};
 
 use crate::check::{check_rules, refusal};
@@ -45,9 +44,7 @@ pub fn check_header(size: u64, h: &MachHeader) -> Result<(), MachFault>
 /// The rules of the command number `k`, whatever its kind, where the commands end at `end`.
 pub fn check_command(end: u64, k: u16, c: &Command) -> Result<(), MachFault>
     requires { c.now.at ≤ end }
-    ensures rules { Checks result
-        ((is_whole end c.now, spec.refusal cause.CommandSize k c.now.at)
-        ∷ (not (is_dynamic c.now), spec.refusal cause.Dynamic k c.now.kind) ∷ []) }
+    ensures rules { Checks result (front_rules end k c.now) }
     ensures fits { OnOk result (c.now.at + c.now.size ≤ end) }
 {
     let dynamic = c.kind == LC_MAIN || c.kind == LC_LOAD_DYLINKER;

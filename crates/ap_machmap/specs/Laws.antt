@@ -1,5 +1,5 @@
 -- Why the laws of the reading hold: proofs, which nobody has to read.
-use Rattle.std.proofs.Common.{◌≡◌, ℕ, ◌+◌, ◌-◌, ◌^◌, ◌<◌, ◌≤◌, Bool, true, false, not, if◌then◌else◌, nat_lt, ◌==◌, ◌&&◌, ◌||◌, List, [], ◌∷◌, ◌++◌, length, map, Option, Some, None, refl, sym, ap, ◌∙◌, subst, arith, inl, inr}
+use Rattle.std.proofs.Common.{◌≡◌, ℕ, ◌+◌, ◌-◌, ◌^◌, ◌<◌, ◌≤◌, Bool, true, false, if◌then◌else◌, nat_lt, ◌==◌, ◌&&◌, ◌||◌, List, [], ◌∷◌, ◌++◌, length, map, Option, Some, None, refl, ap, ◌∙◌, arith, inl, inr}
 use Rattle.std.specs.Prelude.{Result}
 use Rattle.std.proofs.lemmas.Bool.{cases_Bool}
 use Rattle.std.proofs.lemmas.Bool.Decides.{nat_tests}
@@ -14,7 +14,7 @@ use Rattle.ap_mach.specs.declared.types.SegmentCommand.{SegmentCommand}
 use Rattle.ap_mach.specs.declared.types.CommandParts.{CommandParts}
 use Rattle.ap_mach.specs.declared.fault.MachFault.{MachFault}
 use Rattle.ap_mach.specs.Format.{header_of, commands_end, front_of, parts_from, parts_in}
-use Rattle.ap_mach.specs.MachReading.{header_rules, segment_rules, kind_rules, command_rules, commands_rules, mach_rules, is_segment, is_thread, maps, low_behind, count_behind, segments_of, segment_byte, segment_cell, permissions_of, has_address, mach_reading}
+use Rattle.ap_mach.specs.MachReading.{header_rules, front_rules, segment_rules, kind_rules, command_rules, commands_rules, mach_rules, is_segment, is_thread, maps, low_behind, count_behind, segments_of, segment_byte, segment_cell, permissions_of, has_address, mach_reading}
 use Rattle.ap_mach.specs.Looks.{Looks}
 use Rattle.ap_mach.proofs.Framed.{are-alike}
 use Rattle.ap_machmap.specs.MachPlans.{region_of, mapping_of, mach_plan}
@@ -56,7 +56,7 @@ region-good len low n s p =
 
 -- of a command that meets its rules, what those of its kind say
 pub kind-none : (len end k low n : ℕ) (before : Bool) (p : CommandParts) → first_fault (command_rules len end k low n before p) ≡ None → first_fault (kind_rules len k low n before p) ≡ None
-kind-none len end k low n before p h = (append-none (_ ∷ _ ∷ []) (kind_rules len k low n before p) h).1
+kind-none len end k low n before p h = (append-none (front_rules end k p.front) (kind_rules len k low n before p) h).1
 
 pub segment-none : (len k low n : ℕ) (before : Bool) (p : CommandParts) → is_segment p ≡ true → first_fault (kind_rules len k low n before p) ≡ None → first_fault (segment_rules len k low n p.front.size p.segment) ≡ None
 segment-none len k low n before p on h = cc

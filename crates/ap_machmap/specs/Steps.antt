@@ -1,6 +1,6 @@
 -- The plan of a file, command by command: that of the commands that are left, behind some that gave regions and, perhaps, where the
 -- program starts.
-use Rattle.std.specs.Prelude.{ℕ, ◌+◌, ◌^◌, ◌≤◌, ◌&&◌, if◌then◌else◌, Bool, true, false, List, [], ◌∷◌, ◌++◌, length, map, take, Option, Some, None, Result}
+use Rattle.std.specs.Prelude.{ℕ, ◌^◌, ◌≤◌, if◌then◌else◌, Bool, true, false, List, [], ◌∷◌, ◌++◌, length, map, take, Option, Some, None, Result}
 use Rattle.ap_fields.specs.FirstFault.{first_fault}
 use Rattle.ap_image.specs.declared.plan.Region.{Region}
 use Rattle.ap_image.specs.Plans.{Mapping, IsRegion, AreBacked, end_of}

@@ -9,8 +9,8 @@ use crate::segments::region;
 use ap_image::{MOST_REGIONS, Plan, Region};
 use ap_mach::constants::{LC_SEGMENT_64, LC_UNIXTHREAD};
 use ap_mach::{
-    CommandParts, MachCause, MachFault, SegmentCommand, check_command, check_segment,
-    check_thread, maps, refusal,
+    CommandParts, MachCause, MachFault, SegmentCommand, check_command, check_segment, check_thread,
+    maps, refusal,
 };
 use arrayvec::ArrayVec;
 
