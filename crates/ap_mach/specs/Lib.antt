@@ -2,3 +2,5 @@ pub mod Format
 pub mod MachReading
 pub mod Stages
 pub mod Looks
+pub mod Segments
+pub mod Written

@@ -1,12 +1,18 @@
 // The numbers of the Mach-O format that are looked at or written, by the names that loader.h and the headers beside it give
 // them, and the limits that readings set to them.
 
+use ap_fields::MOST_LOADS;
+
 /// The first four bytes of a Mach-O file of 64 bits, as a number.
 pub const MH_MAGIC_64: u32 = 0xfeedfacf;
 /// The machine x86-64 (`cputype`).
 pub const CPU_TYPE_X86_64: u32 = 0x01000007;
+/// Any processor of this machine (`cpusubtype`).
+pub const CPU_SUBTYPE_X86_64_ALL: u32 = 3;
 /// The type of a program (`filetype`).
 pub const MH_EXECUTE: u32 = 2;
+/// The flag of a program of which no symbol is left undefined (`flags`).
+pub const MH_NOUNDEFS: u32 = 1;
 /// The bytes of the header.
 pub const HEADER_SIZE: usize = 32;
 
@@ -45,3 +51,10 @@ pub const X86_THREAD_STATE64: u32 = 4;
 pub const X86_THREAD_STATE64_COUNT: u32 = 42;
 /// The bytes of a thread command with this state.
 pub const THREAD_SIZE: usize = 184;
+
+/// The name of the segment in front of the first load, `__ZERO`, as a number.
+pub const ZERO_NAME: u64 = 0x4f52_455a_5f5f;
+/// The first five letters of the names of the loads' segments, `__APE`, as a number; two digits follow them.
+pub const LOAD_NAME: u64 = 0x45_5041_5f5f;
+/// The most bytes of the headers that are written: the header, a segment command of each load and one more, and a thread command.
+pub const MOST_HEADERS: usize = HEADER_SIZE + SEGMENT_SIZE * (MOST_LOADS + 1) + THREAD_SIZE;
