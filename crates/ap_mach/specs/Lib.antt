@@ -1,0 +1,6 @@
+pub mod Format
+pub mod MachReading
+pub mod Stages
+pub mod Looks
+pub mod Segments
+pub mod Written
