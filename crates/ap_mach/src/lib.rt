@@ -14,6 +14,7 @@ mod law; // where the reading looks
 mod segments; // the segments of a program in a linked file
 mod headers; // its headers as bytes
 mod write; // the headers, claimed
+mod mac; // what of a linked file is for macOS
 
 pub use check::{check_rules, refusal};
 pub use commands::command;
@@ -21,6 +22,7 @@ pub use fault::{MachCause, MachFault};
 pub use file::{header_in, parts_in};
 pub use headers::mach_headers;
 pub use law::mach_reads_alike;
+pub use mac::write_mach;
 pub use rules::{check_command, check_segment, check_thread, maps};
 pub use types::{Command, CommandParts, MachHeader, SegmentCommand, ThreadCommand};
 pub use write::write_headers;
