@@ -53,6 +53,7 @@ use Rattle.ap_link.proofs.ClaimedFiles.{text-end, whole-claimed}
 use Rattle.ap_pe.specs.Linked.{program_of}
 use Rattle.ap_link.proofs.LinkedImages.{elf-is-same, ape-is-same}
 use Rattle.ap_link.proofs.PeImageProof.{pe-is-same}
+use Rattle.ap_link.proofs.MachLinked.{dd-moves}
 use Rattle.ap_link.proofs.PeLinked.{pe-in}
 use Rattle.ap_link.proofs.PlacedTexts.{text-held}
 use Rattle.ap_link.proofs.TakenStatements.{block-magic, taken-block}
@@ -307,6 +308,7 @@ text-linked options a None h =
       count = count-places options (inputs_of e None) l differ fits;
       first = carries options (inputs_of e None) l (tail_of e a None) 1 (tables_start options (inputs_of e None)) a (input_areas e BLOCK) meets differ fits (first-placed options e None) (first-linked options 1 a None h);
       second = tt;
+      moved = dd-moves options (inputs_of e None) l (tail_of e a None) fits;
       claims = claimed-file options e a None h;
       agree = claims-agree l.total (linked_claims options a None) (linked_text options a None) (claimed-file options e a None h);
     }
@@ -331,6 +333,7 @@ text-linked options a (Some b) h =
           (first-placed options e (Some f)) (first-linked options 1 a o h);
       second = carries options (inputs_of e (Some f)) l (tail_of e a o) 2 (tables_start options (inputs_of e (Some f)) + table_length e) b (input_areas f (input_end e)) meets differ fits
           (second-placed options e f) (second-linked options 2 e a b h);
+      moved = dd-moves options (inputs_of e (Some f)) l (tail_of e a o) fits;
       claims = claimed-file options e a o h;
       agree = claims-agree l.total (linked_claims options a (Some b)) (linked_text options a (Some b)) (claimed-file options e a o h);
     }

@@ -1,5 +1,5 @@
 -- What stands of a linked file, and what the linker answers.
-use Rattle.std.specs.Prelude.{◌≡◌, ◌↔◌, ℕ, ◌+◌, ◌<◌, true, List, length, Contains, IfSome, Vec, Result, Ok, Err, Option, Some, None}
+use Rattle.std.specs.Prelude.{◌≡◌, ◌↔◌, ℕ, ◌+◌, ◌/◌, ◌<◌, true, List, length, Contains, IfSome, Vec, Result, Ok, Err, Option, Some, None}
 use Rattle.std.specs.declared.alloc.Global.{Global}
 use Rattle.ap_fields.specs.Bytes.{Holds, over}
 use Rattle.ap_fields.specs.Readings.{bytes_in}
@@ -14,12 +14,14 @@ use Rattle.ap_check.specs.Windows.{base_of, pe_entry_of}
 use Rattle.ap_check.specs.Inputs.{Taken, input_of, inputs_of}
 use Rattle.ap_check.specs.Both.{first_fault_of_both}
 use Rattle.ap_elf.specs.Machines.{IsPage}
+use Rattle.ap_octal.specs.DdEffect.{dd_effect}
 use Rattle.ap_octal.specs.Embedded.{Opens}
 use Rattle.ap_octal.specs.Statement.{statement_of}
 use Rattle.ap_loader.specs.ApeReading.{ape_reading}
 use Rattle.ap_layout.specs.Positions.{Positions, positions_of, tables_start, table_length}
 use Rattle.ap_pe.specs.declared.constants.TheConstants.{SECTION_ALIGNMENT}
 use Rattle.ap_pe.specs.PeReading.{pe_reading}
+use Rattle.ap_mach.specs.Linked.{mach_text}
 use Rattle.ap_script.specs.Tables.{embedded_bytes}
 use Rattle.ap_script.specs.Blocks.{body_of}
 use Rattle.ap_script.specs.Stands.{HasFreeDelimiter, HasZeros, statement_place, statement_places}
@@ -36,6 +38,10 @@ inputs_in a b = inputs_of (input_of 1 a) (taken_second b)
 
 abbrev pub positions_in : Options → List ℕ → Option (List ℕ) → Positions
 positions_in options a b = positions_of options (input_of 1 a) (taken_second b)
+
+-- the Mach-O header, which is empty where there is none
+abbrev pub mach_in : Options → List ℕ → Option (List ℕ) → List ℕ
+mach_in options a b = mach_text options (inputs_in a b) (positions_in options a b)
 
 -- the here-document's body
 abbrev pub body_in : Options → List ℕ → Option (List ℕ) → List ℕ
@@ -66,8 +72,8 @@ CarriesSecond options a b file =
 
 -- What a linked file of one or two inputs is, and what stands of it: its bytes and its size; the here-document's body, which holds
 -- a zero in each eight bytes and has no line that ends it; that `printf '` stands in its window where the script has statements
--- and nowhere else, which are one for each input, that for x86-64 first; what it carries of each input; and that it is the file of
--- its claims, which agree where they meet.
+-- and nowhere else, which are one for each input, that for x86-64 first; what it carries of each input; that `dd`, as the script
+-- calls it, writes the Mach-O header over the first bytes; and that it is the file of its claims, which agree where they meet.
 pub record IsLinked (options : Options) (a : List ℕ) (b : Option (List ℕ)) (file : List ℕ) : Type 0 where
   pub bytes : file ≡ linked_of options a b
   pub size : length file ≡ (positions_in options a b).total
@@ -79,6 +85,7 @@ pub record IsLinked (options : Options) (a : List ℕ) (b : Option (List ℕ)) (
   pub order : statement_place options (inputs_in a b) (positions_in options a b) X64 < statement_place options (inputs_in a b) (positions_in options a b) A64
   pub first : CarriesFirst options a b file
   pub second : IfSome b (λ c. CarriesSecond options a c file)
+  pub moved : dd_effect true 8 ((positions_in options a b).mach_at / 8) ((positions_in options a b).mach_len / 8) file file ≡ over file (mach_in options a b)
   pub claims : IsFile (positions_in options a b).total (linked_claims options a b) file
   pub agree : Agree (linked_claims options a b)
 
