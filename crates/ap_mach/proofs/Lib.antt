@@ -1,3 +1,6 @@
 pub mod Framed
 pub mod PartReads
 pub mod SegmentTables
+pub mod Protections
+pub mod Walks
+pub mod HeaderReads

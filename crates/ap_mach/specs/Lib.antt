@@ -4,3 +4,4 @@ pub mod Stages
 pub mod Looks
 pub mod Segments
 pub mod Written
+pub mod ReadBack
