@@ -3,3 +3,6 @@ pub mod PartReads
 pub mod SegmentTables
 pub mod LinkedHeaders
 pub mod Programs
+pub mod Protections
+pub mod Walks
+pub mod HeaderReads

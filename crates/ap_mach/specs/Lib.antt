@@ -5,3 +5,4 @@ pub mod Looks
 pub mod Segments
 pub mod Written
 pub mod Linked
+pub mod ReadBack

@@ -21,7 +21,7 @@ pub use commands::command;
 pub use fault::{MachCause, MachFault};
 pub use file::{header_in, parts_in};
 pub use headers::mach_headers;
-pub use law::mach_reads_alike;
+pub use law::{mach_reads_alike, mach_reads_back};
 pub use mac::write_mach;
 pub use rules::{check_command, check_segment, check_thread, maps};
 pub use types::{Command, CommandParts, MachHeader, SegmentCommand, ThreadCommand};
