@@ -28,3 +28,4 @@ pub mod PePerms
 pub mod PeSections
 pub mod PeWalk
 pub mod PeImageProof
+pub mod MachImageProof

@@ -15,7 +15,7 @@ use Rattle.ap_check.specs.declared.fault.Fault.{Fault}
 use Rattle.ap_check.specs.declared.options.Options.{Options}
 use Rattle.ap_check.specs.Rules.{fault_of, rules_of}
 use Rattle.ap_check.specs.Windows.{AreReady}
-use Rattle.ap_check.specs.Mac.{system_rules, AreForMac}
+use Rattle.ap_check.specs.Mac.{mach_entry_of, system_rules, AreForMac}
 use Rattle.ap_check.specs.Both.{machines_rules, x64_bytes, first_fault_of_both}
 use Rattle.ap_check.proofs.Laws.{input_meets}
 use Rattle.ap_check.proofs.Pairs.{pair-says}
@@ -53,7 +53,10 @@ use Rattle.ap_link.proofs.ClaimedFiles.{text-end, whole-claimed}
 use Rattle.ap_pe.specs.Linked.{program_of}
 use Rattle.ap_link.proofs.LinkedImages.{elf-is-same, ape-is-same}
 use Rattle.ap_link.proofs.PeImageProof.{pe-is-same}
-use Rattle.ap_link.proofs.MachLinked.{dd-moves}
+use Rattle.ap_mach.specs.Linked.{mach_text}
+use Rattle.ap_mach.specs.MachReading.{mach_reading}
+use Rattle.ap_link.proofs.MachImageProof.{mach-is-same}
+use Rattle.ap_link.proofs.MachLinked.{dd-moves, mach-text-is, mach-entry-low}
 use Rattle.ap_link.proofs.PeLinked.{pe-in}
 use Rattle.ap_link.proofs.PlacedTexts.{text-held}
 use Rattle.ap_link.proofs.TakenStatements.{block-magic, taken-block}
@@ -245,7 +248,7 @@ ape-by m page place file header magic is =
 carries : (options : Options) (inputs : List Taken) (l : Positions) (rest : List ℕ) (n table : ℕ) (b : List ℕ) (areas : List Area)
     → All (λ i. Meets i) inputs → MachinesDiffer inputs → Fits options inputs l → IsOneOf (record { input = input_of n b; areas = areas; table = table }) (placed_inputs inputs l)
     → IsLinkedIn (input_of n b) (entries_of b) (bytes_in b) areas table (block_of options inputs l ++ rest)
-    → Carries options b (input_of n b) table (statement_place options inputs l (input_of n b).machine) (block_of options inputs l ++ rest)
+    → Carries options b (input_of n b) table (statement_place options inputs l (input_of n b).machine) (mach_text options inputs l) (block_of options inputs l ++ rest)
 carries options inputs l rest n table b areas meets differ fits has linked =
     let e : Taken = input_of n b in
     let file : List ℕ = block_of options inputs l ++ rest in
@@ -263,6 +266,10 @@ carries options inputs l rest n table b areas meets differ fits has linked =
           (ape-is-same e (entries_of b) (bytes_in b) areas table file page linked is)));
       pe = λ chosen machine. pe-is-same e (entries_of b) (bytes_in b) areas table (program_of e) file
           (pe-in options inputs l rest (record { input = e; areas = areas; table = table }) (entries_of b) (bytes_in b) meets differ fits has linked chosen machine);
+      mach = λ chosen machine. subst (λ h. Same 4096 (bytes_in b) (loads_in (entries_of b)) (mach_entry_of e) nothing_else (mach_reading (over file h)))
+          (sym (mach-text-is options inputs l (record { input = e; areas = areas; table = table }) differ fits has chosen machine))
+          (mach-is-same e (entries_of b) (bytes_in b) areas table (mach_entry_of e) file linked machine
+          (mach-entry-low options inputs l (record { input = e; areas = areas; table = table }) linked.meets differ fits has chosen machine));
     }
 
 -- ---- the whole

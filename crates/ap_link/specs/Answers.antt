@@ -9,8 +9,9 @@ use Rattle.ap_elf.specs.ElfReading.{elf_reading}
 use Rattle.ap_check.specs.declared.options.Options.{Options}
 use Rattle.ap_elf.specs.declared.machine.Machine.TheVariants.{X64, A64}
 use Rattle.ap_elf.specs.Machines.{granule_of, number_of}
-use Rattle.ap_check.specs.Options.{for_windows}
+use Rattle.ap_check.specs.Options.{for_windows, for_mac}
 use Rattle.ap_check.specs.Windows.{base_of, pe_entry_of}
+use Rattle.ap_check.specs.Mac.{mach_entry_of}
 use Rattle.ap_check.specs.Inputs.{Taken, input_of, inputs_of}
 use Rattle.ap_check.specs.Both.{first_fault_of_both}
 use Rattle.ap_elf.specs.Machines.{IsPage}
@@ -21,6 +22,8 @@ use Rattle.ap_loader.specs.ApeReading.{ape_reading}
 use Rattle.ap_layout.specs.Positions.{Positions, positions_of, tables_start, table_length}
 use Rattle.ap_pe.specs.declared.constants.TheConstants.{SECTION_ALIGNMENT}
 use Rattle.ap_pe.specs.PeReading.{pe_reading}
+use Rattle.ap_mach.specs.declared.constants.TheConstants.{SEGMENT_ALIGNMENT}
+use Rattle.ap_mach.specs.MachReading.{mach_reading}
 use Rattle.ap_mach.specs.Linked.{mach_text}
 use Rattle.ap_script.specs.Tables.{embedded_bytes}
 use Rattle.ap_script.specs.Blocks.{body_of}
@@ -50,8 +53,9 @@ body_in options a b = body_of options (inputs_in a b) (positions_in options a b)
 -- what stands of an input of these bytes, taken as e, in a file where its program header table has a place: the statement of
 -- its embedded header stands at its place, and what the readings find at each page size, in the file with that header over
 -- its first bytes and in the file itself, is the input's image; and so is, of an input for x86-64 where Windows was chosen, what the
--- PE reading finds, with the PE headers and the gaps between loads beside it, and the entry that a symbol tells
-pub record Carries (options : Options) (input : List ℕ) (e : Taken) (table statement : ℕ) (file : List ℕ) : Type 0 where
+-- PE reading finds, with the PE headers and the gaps between loads beside it, and the entry that a symbol tells; and, where macOS
+-- was chosen, what the Mach-O reading finds in the file with the Mach-O header over its first bytes, with the entry for macOS
+pub record Carries (options : Options) (input : List ℕ) (e : Taken) (table statement : ℕ) (header file : List ℕ) : Type 0 where
   pub text : Holds file statement (statement_of (embedded_bytes e table))
   pub elf : (page : ℕ) → IsPage e.machine page
       → Same (granule_of e.machine) (bytes_in input) (loads_in (entries_of input)) (header_of input).e_entry nothing_else (elf_reading (number_of e.machine) page (over file (embedded_bytes e table)))
@@ -59,16 +63,18 @@ pub record Carries (options : Options) (input : List ℕ) (e : Taken) (table sta
       → Same (granule_of e.machine) (bytes_in input) (loads_in (entries_of input)) (header_of input).e_entry nothing_else (ape_reading (number_of e.machine) page file)
   pub pe : for_windows options ≡ true → e.machine ≡ X64
       → Same SECTION_ALIGNMENT (bytes_in input) (loads_in (entries_of input)) (pe_entry_of e) (pe_else (bytes_in file) (base_of e) e.loads) (pe_reading file)
+  pub mach : for_mac options ≡ true → e.machine ≡ X64
+      → Same SEGMENT_ALIGNMENT (bytes_in input) (loads_in (entries_of input)) (mach_entry_of e) nothing_else (mach_reading (over file header))
 
 abbrev pub CarriesFirst : Options → List ℕ → Option (List ℕ) → List ℕ → Type 0
 CarriesFirst options a b file =
     let e = input_of 1 a in
-    Carries options a e (tables_start options (inputs_in a b)) (statement_place options (inputs_in a b) (positions_in options a b) e.machine) file
+    Carries options a e (tables_start options (inputs_in a b)) (statement_place options (inputs_in a b) (positions_in options a b) e.machine) (mach_in options a b) file
 
 abbrev pub CarriesSecond : Options → List ℕ → List ℕ → List ℕ → Type 0
 CarriesSecond options a b file =
     let e = input_of 2 b in
-    Carries options b e (tables_start options (inputs_in a (Some b)) + table_length (input_of 1 a)) (statement_place options (inputs_in a (Some b)) (positions_in options a (Some b)) e.machine) file
+    Carries options b e (tables_start options (inputs_in a (Some b)) + table_length (input_of 1 a)) (statement_place options (inputs_in a (Some b)) (positions_in options a (Some b)) e.machine) (mach_in options a (Some b)) file
 
 -- What a linked file of one or two inputs is, and what stands of it: its bytes and its size; the here-document's body, which holds
 -- a zero in each eight bytes and has no line that ends it; that `printf '` stands in its window where the script has statements

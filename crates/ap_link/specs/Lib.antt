@@ -6,6 +6,7 @@ pub mod Same
 pub mod LinkedIn
 pub mod Images
 pub mod PeImages
+pub mod MachImages
 pub mod Answers
 pub mod FileAnswers
 pub mod Lent

@@ -3,8 +3,9 @@ ghost use Rattle.std.specs.Prelude.{◌≡◌, false};
 
 use super::{PLAIN, USUAL, file_of, other, taken};
 use ap_check::*;
-use ap_claims::Block;
+use ap_claims::{Block, Owners};
 use ap_layout::place;
+use ap_mach::write_mach;
 use ap_script::{write_script, write_tables};
 use std::test::Fail;
 
@@ -83,6 +84,11 @@ fn the_header_stands_behind_the_window(rt: HostRuntime) -> Result<(), Fail> {
         .ok_or("refused")?;
     let lay = place(&job);
     assert!(rt; (lay.mach_at, lay.mach_len) == (8192, 576));
+    let mut block = Block::new();
+    assert!(rt; write_mach(&mut block, &job, &lay).is_ok());
+    assert!(rt; block.owners(8191) == Owners::default() && block.owners(8192) == Owners::MACH);
+    assert!(rt; block.owners(8767) == Owners::MACH && block.owners(8768) == Owners::default());
+    assert!(rt; block.bytes()[8208..].starts_with(&[6, 0, 0, 0, 0x20, 2, 0, 0]));
     for (program, len, lines) in [(PLAIN, 360, DARWIN), (other(), 0, NO_DARWIN)] {
         let input = check_input(&program, 1).ok().ok_or("refused")?;
         assert!(rt; input.size == 144);
