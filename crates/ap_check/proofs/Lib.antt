@@ -9,3 +9,4 @@ pub mod Laws
 pub mod Ready
 pub mod ImportLemmas
 pub mod WindowsLemmas
+pub mod SystemRules

@@ -11,7 +11,7 @@ use Rattle.ap_elf.specs.declared.machine.Machine.TheVariants.{X64, A64}
 use Rattle.ap_elf.specs.Machines.{number_of}
 use Rattle.ap_check.specs.Rules.{Checks, size_rules, ident_rules, field_rules, header_rules, table_rules, bare_rules, symbols_rules, input_rules, rules_of, first_fault_of}
 use Rattle.ap_check.specs.Inputs.{Taken, machine_of, taken_of, input_of, located_of}
-use Rattle.ap_check.specs.Windows.{windows_rules}
+use Rattle.ap_check.specs.Mac.{system_rules}
 use Rattle.ap_check.specs.Both.{machines_rules, x64_bytes, pair_rules, rules_of_both, first_fault_of_both, IsTakenOf, AreTakenOf}
 
 -- the header's rules, where all hold
@@ -42,34 +42,34 @@ number-taken n b i is = ap (λ (x : Taken). number_of x.machine) is.1 ∙ number
 
 -- input 1 breaks a rule, whatever the other is
 pub first-breaks : (options : Options) (a : List ℕ) (b : Option (List ℕ)) (f : Fault) → first_fault_of 1 a ≡ Some f → first_fault_of_both options a b ≡ Some f
-first-breaks options a None f h = some-append (rules_of 1 a) (windows_rules options (input_of 1 a ∷ []) a) f h
-first-breaks options a (Some b) f h = some-append (rules_of 1 a) (rules_of 2 b ++ (machines_rules (header_of a).e_machine (header_of b).e_machine ++ windows_rules options (input_of 1 a ∷ input_of 2 b ∷ []) (x64_bytes (input_of 1 a) a (Some b)))) f h
+first-breaks options a None f h = some-append (rules_of 1 a) (system_rules options (input_of 1 a ∷ []) a) f h
+first-breaks options a (Some b) f h = some-append (rules_of 1 a) (rules_of 2 b ++ (machines_rules (header_of a).e_machine (header_of b).e_machine ++ system_rules options (input_of 1 a ∷ input_of 2 b ∷ []) (x64_bytes (input_of 1 a) a (Some b)))) f h
 
 -- input 2 breaks a rule
 pub second-breaks : (options : Options) (a b : List ℕ) (f : Fault) → first_fault_of 1 a ≡ None → first_fault_of 2 b ≡ Some f → first_fault_of_both options a (Some b) ≡ Some f
 second-breaks options a b f none h =
-    let together = machines_rules (header_of a).e_machine (header_of b).e_machine ++ windows_rules options (input_of 1 a ∷ input_of 2 b ∷ []) (x64_bytes (input_of 1 a) a (Some b)) in
+    let together = machines_rules (header_of a).e_machine (header_of b).e_machine ++ system_rules options (input_of 1 a ∷ input_of 2 b ∷ []) (x64_bytes (input_of 1 a) a (Some b)) in
     none-append (rules_of 1 a) (rules_of 2 b ++ together) none ∙ some-append (rules_of 2 b) together f h
 
 -- neither does: what was taken tells
 pub pair-says : (options : Options) (a : List ℕ) (b : Option (List ℕ)) (first : Taken) (second : Option Taken) → AreTakenOf a b first second
     → first_fault_of_both options a b ≡ first_fault (pair_rules options first second (x64_bytes first a b))
 pair-says options a None first None are =
-    none-append (rules_of 1 a) (windows_rules options (input_of 1 a ∷ []) a) are.0
-    ∙ ap (λ (x : Taken). first_fault (windows_rules options (x ∷ []) a)) (sym are.1)
+    none-append (rules_of 1 a) (system_rules options (input_of 1 a ∷ []) a) are.0
+    ∙ ap (λ (x : Taken). first_fault (system_rules options (x ∷ []) a)) (sym are.1)
 pair-says options a None first (Some second) are = absurd are
 pair-says options a (Some b) first None are = absurd are
 pair-says options a (Some b) first (Some second) are =
     let e : Taken = input_of 1 a in
     let f : Taken = input_of 2 b in
-    let windows = windows_rules options (e ∷ f ∷ []) (x64_bytes e a (Some b)) in
+    let systems = system_rules options (e ∷ f ∷ []) (x64_bytes e a (Some b)) in
     let machines = machines_rules (header_of a).e_machine (header_of b).e_machine in
-    none-append (rules_of 1 a) (rules_of 2 b ++ (machines ++ windows)) are.0.0
-    ∙ none-append (rules_of 2 b) (machines ++ windows) are.1.0
-    ∙ ap (λ x. first_fault (machines_rules x (header_of b).e_machine ++ windows)) (sym (number-taken 1 a first are.0))
-    ∙ ap (λ x. first_fault (machines_rules (number_of first.machine) x ++ windows)) (sym (number-taken 2 b second are.1))
-    ∙ ap (λ (x : Taken). first_fault (machines_rules (number_of first.machine) (number_of second.machine) ++ windows_rules options (x ∷ f ∷ []) (x64_bytes x a (Some b)))) (sym are.0.1)
-    ∙ ap (λ (x : Taken). first_fault (machines_rules (number_of first.machine) (number_of second.machine) ++ windows_rules options (first ∷ x ∷ []) (x64_bytes first a (Some b)))) (sym are.1.1)
+    none-append (rules_of 1 a) (rules_of 2 b ++ (machines ++ systems)) are.0.0
+    ∙ none-append (rules_of 2 b) (machines ++ systems) are.1.0
+    ∙ ap (λ x. first_fault (machines_rules x (header_of b).e_machine ++ systems)) (sym (number-taken 1 a first are.0))
+    ∙ ap (λ x. first_fault (machines_rules (number_of first.machine) x ++ systems)) (sym (number-taken 2 b second are.1))
+    ∙ ap (λ (x : Taken). first_fault (machines_rules (number_of first.machine) (number_of second.machine) ++ system_rules options (x ∷ f ∷ []) (x64_bytes x a (Some b)))) (sym are.0.1)
+    ∙ ap (λ (x : Taken). first_fault (machines_rules (number_of first.machine) (number_of second.machine) ++ system_rules options (first ∷ x ∷ []) (x64_bytes first a (Some b)))) (sym are.1.1)
 
 -- and so does a check of it
 pub checks-both : {T : Type 0} (options : Options) (a : List ℕ) (b : Option (List ℕ)) (first : Taken) (second : Option Taken) (bytes : List ℕ) (result : Result T Fault) → AreTakenOf a b first second

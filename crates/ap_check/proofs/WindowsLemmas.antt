@@ -20,7 +20,7 @@ use Rattle.ap_check.specs.declared.options.Options.{Options}
 use Rattle.ap_check.specs.declared.end.CheckEnd.{CheckEnd}
 use Rattle.ap_check.specs.declared.end.CheckEnd.TheVariants.{Rule, ReadFault}
 use Rattle.ap_check.specs.Options.{for_windows}
-use Rattle.ap_check.specs.Rules.{fault_of}
+use Rattle.ap_check.specs.Rules.{fault_of, Checks}
 use Rattle.ap_check.specs.Inputs.{Taken, Meets, AreLoads, can_start, first_start}
 use Rattle.ap_fields.specs.Readings.{bytes_in}
 use Rattle.ap_image.specs.Cells.{Memory}
@@ -83,6 +83,11 @@ base-low e at meets none is =
 
 -- ---- rules behind others, of which some need a file's bytes
 
+-- the end of a check whose rules need none
+abbrev check_end : {T : Type 0} → Result T Fault → Result T CheckEnd
+check_end (Ok v) = Ok v
+check_end (Err f) = Err (Rule f)
+
 -- one of the first is broken
 pub told-early : (T : Type 0) (s : FileState) (name : List ℕ) (front : Rules Fault) (rules : List ℕ → Rules Fault) (f : Fault) → first_fault front ≡ Some f → ChecksTold {T = T} s s name (λ b. front ++ rules b) (Err (Rule f))
 told-early T s name front rules f broken = (refl, λ m b told at. some-append front (rules b) f broken)
@@ -103,6 +108,17 @@ told-as T old new name rules others (Err ReadFault) same h = h
 pub told-end : (S T : Type 0) (old new : FileState) (name : List ℕ) (rules : List ℕ → Rules Fault) (end : CheckEnd) → ChecksTold {T = S} old new name rules (Err end) → ChecksTold {T = T} old new name rules (Err end)
 told-end S T old new name rules (Rule f) h = h
 told-end S T old new name rules ReadFault h = h
+
+-- and rules that need none, behind them: one of the others is broken, or all of them hold
+pub told-before : (T : Type 0) (old new : FileState) (name : List ℕ) (rules : List ℕ → Rules Fault) (more : Rules Fault) (end : CheckEnd) → ChecksTold {T = T} old new name rules (Err end)
+    → ChecksTold {T = T} old new name (λ b. rules b ++ more) (Err end)
+told-before T old new name rules more (Rule f) h = (h.0, λ m b told at. some-append (rules b) more f (h.1 m b told at))
+told-before T old new name rules more ReadFault h = h
+
+pub told-behind : (S T : Type 0) (old new : FileState) (name : List ℕ) (rules : List ℕ → Rules Fault) (more : Rules Fault) (value : S) (result : Result T Fault) → ChecksTold {T = S} old new name rules (Ok value) → Checks result more
+    → ChecksTold {T = T} old new name (λ b. rules b ++ more) (check_end result)
+told-behind S T old new name rules more value (Ok v) h says = (h.0, λ m b told at. none-append (rules b) more (h.1 m b told at) ∙ says)
+told-behind S T old new name rules more value (Err f) h says = (h.0, λ m b told at. none-append (rules b) more (h.1 m b told at) ∙ says)
 
 -- ---- whether Windows was chosen
 

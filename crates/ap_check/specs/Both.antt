@@ -8,7 +8,7 @@ use Rattle.ap_elf.specs.declared.machine.Machine.TheVariants.{X64}
 use Rattle.ap_elf.specs.Machines.{number_of, is_machine}
 use Rattle.ap_check.specs.Rules.{fault_of, rules_of, first_fault_of}
 use Rattle.ap_check.specs.Inputs.{Taken, input_of, inputs_of}
-use Rattle.ap_check.specs.Windows.{windows_rules}
+use Rattle.ap_check.specs.Mac.{system_rules}
 
 -- rule 23: two inputs are for different machines, by the machines' numbers
 abbrev pub machines_rules : ℕ → ℕ → Rules Fault
@@ -24,16 +24,16 @@ abbrev pub x64_bytes : Taken → List ℕ → Option (List ℕ) → List ℕ
 x64_bytes first a None = a
 x64_bytes first a (Some b) = if is_machine X64 first.machine then a else b
 
--- rules 23 to 28 of what was taken, by the bytes of the input for x86-64
+-- rules 23 to 29 of what was taken, by the bytes of the input for x86-64
 abbrev pub pair_rules : Options → Taken → Option Taken → List ℕ → Rules Fault
-pair_rules options first second bytes = taken_machines_rules first second ++ windows_rules options (inputs_of first second) bytes
+pair_rules options first second bytes = taken_machines_rules first second ++ system_rules options (inputs_of first second) bytes
 
 -- all rules, by the bytes of the inputs: those of input 1 alone, those of input 2 alone, and those of both together
 abbrev pub rules_of_both : Options → List ℕ → Option (List ℕ) → Rules Fault
-rules_of_both options first None = rules_of 1 first ++ windows_rules options (input_of 1 first ∷ []) first
+rules_of_both options first None = rules_of 1 first ++ system_rules options (input_of 1 first ∷ []) first
 rules_of_both options first (Some second) =
     rules_of 1 first ++ (rules_of 2 second ++ (machines_rules (header_of first).e_machine (header_of second).e_machine
-    ++ windows_rules options (input_of 1 first ∷ input_of 2 second ∷ []) (x64_bytes (input_of 1 first) first (Some second))))
+    ++ system_rules options (input_of 1 first ∷ input_of 2 second ∷ []) (x64_bytes (input_of 1 first) first (Some second))))
 
 -- the fault of the first rule that one or two inputs break, if any
 abbrev pub first_fault_of_both : Options → List ℕ → Option (List ℕ) → Option Fault

@@ -5,5 +5,6 @@ pub mod Bare
 pub mod Ends
 pub mod ImportRule
 pub mod Windows
+pub mod Mac
 pub mod Both
 pub mod InputPlans

@@ -1,5 +1,5 @@
--- What is asked of a linked file, and what of it is taken so far.
-use Rattle.std.specs.Prelude.{◌≡◌, ◌<◌, ℕ, ◌==◌, not, Bool, true, false, bit_and}
+-- What is asked of a linked file, and what of it is taken.
+use Rattle.std.specs.Prelude.{◌≡◌, ℕ, ◌==◌, not, Bool, true, false, bit_and}
 use Rattle.ap_check.specs.declared.options.Systems.{Systems}
 use Rattle.ap_check.specs.declared.options.Options.{Options}
 
@@ -11,7 +11,10 @@ has_system systems bit = not (bit_and systems.0 bit == 0)
 abbrev pub for_windows : Options → Bool
 for_windows options = has_system options.systems 8
 
--- no macOS, whose bit is 16 and the highest; and no magic for debuggers where Windows was chosen, which has its own
-pub record AreTaken (o : Options) : Type 0 where
-  pub systems : o.systems.0 < 16
-  pub magic : o.debug ≡ true → for_windows o ≡ false
+-- whether macOS was chosen
+abbrev pub for_mac : Options → Bool
+for_mac options = has_system options.systems 16
+
+-- no magic for debuggers where Windows was chosen, which has its own
+abbrev pub AreTaken : Options → Type 0
+AreTaken options = options.debug ≡ true → for_windows options ≡ false

@@ -7,6 +7,7 @@ ghost use Rattle.ap_check.specs.Rules.{Checks};
 ghost use Rattle.ap_check.specs.ImportRule.{ChecksTold};
 ghost use Rattle.ap_check.specs.Inputs.{inputs_of};
 ghost use Rattle.ap_check.specs.Windows.{x64_of, base_of, image_rules, x64_rules, windows_rules, MeetsWindows, IsReady};
+ghost use Rattle.ap_check.specs.Mac.{system_rules, AreForMac};
 ghost use Rattle.ap_check.specs.Both.{taken_machines_rules, pair_rules, x64_bytes, rules_of_both, AreTakenOf};
 
 use crate::end::CheckEnd;
@@ -14,6 +15,7 @@ use crate::fault::{Fault, broken};
 use crate::imports::check_imports_in;
 use crate::input::Input;
 use crate::job::{Job, x64_input};
+use crate::mac::check_mac;
 use crate::options::{Options, Systems};
 use crate::windows::{check_image, image_base};
 use ap_files::{Files, SliceFiles};
@@ -30,9 +32,11 @@ use bitflags::Flags;
 /// - 27: where Windows was chosen, it has none of the four symbols of an import table, or all and `ape_image_base`. The value is how
 ///   many of the four it has.
 /// - 28: where Windows was chosen, the import table that they name stands. The item is the part that fails.
+/// - 29: where macOS was chosen and an input is for x86-64, the value of its symbol `ape_mach_entry`, or its `e_entry` where there is
+///   no such symbol, is an address of a load that may be executed. The value is that address.
 ///
-/// `bytes` are those of the input for x86-64; where there is none, they aren't looked at. The options name no macOS, and no magic
-/// for debuggers together with Windows.
+/// `bytes` are those of the input for x86-64; where there is none, they aren't looked at. The options name no magic for debuggers
+/// together with Windows.
 #[tactic(auto, using(ap_files::proofs::SliceLemmas::slice_steps))]
 pub fn check_all<'a>(
     first: &'a Input,
@@ -85,7 +89,7 @@ pub fn check_all_in<'a, F: Files>(
     ensures options { IfOk result (λ job. job.options ≡ options.now) }
 {
     check_machines(first, second)?;
-    let base = check_windows_in(first, second, options, files, name)?;
+    let base = check_systems_in(first, second, options, files, name)?;
     Ok(Job {
         first,
         second,
@@ -106,6 +110,29 @@ fn check_machines(first: &Input, second: Option<&Input>) -> Result<(), Fault>
         }
         _ => Ok(()),
     }
+}
+
+// Rules 24 to 29, by the systems that were chosen, and then the image base on Windows, or 0 without Windows.
+fn check_systems_in<F: Files>(
+    first: &Input,
+    second: Option<&Input>,
+    options: &Options,
+    files: &mut F,
+    name: &str,
+) -> Result<u64, CheckEnd>
+    requires { IfSome (x64_of (inputs_of first.now (option_copied second)))
+        (λ e. HasSize (F.state files.old).kept name.now e.size) }
+    ensures rules { ChecksTold (F.state files.old) (F.state files.new) name.now
+        (system_rules options.now (inputs_of first.now (option_copied second.entry))) result }
+    ensures ready { IfOk result (λ base. for_windows options.now ≡ true
+        → IsSomeAnd (x64_of (inputs_of first.now (option_copied second.entry))) (IsReady base)) }
+    ensures top { IfOk result (λ base. base ≤ 2 ^ 48) }
+    ensures mac { OnOk result
+        (AreForMac options.now (inputs_of first.now (option_copied second.entry))) }
+{
+    let base = check_windows_in(first, second, options, files, name)?;
+    check_mac(first, second, options)?;
+    Ok(base)
 }
 
 // Rules 24 to 28, where Windows was chosen, and then the image base; else 0.

@@ -6,6 +6,7 @@ ghost use Rattle.ap_check.specs.Inputs.{inputs_of};
 ghost use Rattle.ap_elf.specs.declared.machine.Machine.TheVariants.{X64};
 ghost use Rattle.ap_elf.specs.Machines.{is_machine};
 ghost use Rattle.ap_check.specs.Windows.{x64_of, IsReady};
+ghost use Rattle.ap_check.specs.Mac.{AreForMac};
 
 use crate::input::Input;
 use crate::options::Options;
@@ -25,6 +26,7 @@ pub struct Job<'a> {
     pub ghost second_number: { IfSome (option_copied second) (λ i. i.number ≡ 2) } by { Prim.hlevel props },
     pub ghost machines: { IfSome (option_copied second) (λ i. first.now.machine ≢ i.machine) } by { Prim.hlevel props },
     pub ghost windows: { for_windows options ≡ true → IsSomeAnd (x64_of (inputs_of first.now (option_copied second))) (IsReady base) } by { Prim.hlevel props },
+    pub ghost mac: { AreForMac options (inputs_of first.now (option_copied second)) } by { Prim.hlevel props },
 }
 
 impl<'a> Job<'a> {

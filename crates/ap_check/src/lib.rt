@@ -15,7 +15,8 @@ mod span; // rules 19 and 20: all loads together
 mod tls; // rule 21: the template of thread-local storage
 mod named; // the symbols that the linker looks for
 mod windows; // rules 24 to 28: what Windows asks
-mod both; // rules 23 to 28: all inputs together
+mod mac; // rule 29: what macOS asks
+mod both; // rules 23 to 29: all inputs together
 mod imports; // rule 28: the import table
 mod input_plan; // an input in memory
 mod input; // what is taken of an input
@@ -38,6 +39,7 @@ pub use input::Input;
 pub use input_plan::{bytes_are_cells, plan_of};
 pub use job::Job;
 pub use load::{Load, taken_loads};
+pub use mac::mach_entry;
 pub use options::{Options, Systems};
 pub use size::check_size;
 pub use symbols::Symbols;

@@ -13,6 +13,7 @@ use Rattle.ap_check.specs.Inputs.{Taken, Meets, inputs_of}
 use Rattle.ap_layout.specs.declared.layout.Area.{Area}
 use Rattle.ap_layout.specs.declared.sizes.TheConstants.{MOST_AREAS, MOST_TABLE}
 use Rattle.ap_check.specs.Windows.{AreReady}
+use Rattle.ap_check.specs.Mac.{AreForMac}
 use Rattle.ap_layout.specs.Areas.{area_of, after, areas_of, end_from, new_areas, Among, Serves, ServeAll}
 use Rattle.ap_layout.specs.Positions.{Positions, Fits, PlacedInput, AreServed, placed_inputs, all_areas, positions_of, input_areas, no_sharing, joined, one_if, table_length}
 use Rattle.ap_layout.specs.Apart.{AllApart, Ascend, FittingIsApart, first_areas}
@@ -20,7 +21,7 @@ use Rattle.ap_layout.proofs.Rounded.{granule_of-is, ceil-least}
 use Rattle.ap_layout.proofs.NewAreas.{Within, new-apart, end-append, end-least}
 use Rattle.ap_layout.proofs.Serving.{AllMayServe, areas-serve, nothing-shared, served-end}
 use Rattle.ap_layout.proofs.Walked.{room_of, room_of-is}
-use Rattle.ap_layout.proofs.HeaderLengths.{pe_length-most}
+use Rattle.ap_layout.proofs.HeaderLengths.{pe_length-most, mach-inside}
 
 -- how far the cursor moves over an input's loads
 end-most : (shares : ℕ → Option Area) (i g : ℕ) (loads : List Load) (c c0 : ℕ) (old : List Area) → IsGranule g → c0 ≤ c → AllMayServe shares i g c0 old loads → end_from c (areas_of shares i g loads c) ≤ c + room_of loads
@@ -68,27 +69,32 @@ serve-more g news more (p ∷ loads) (a ∷ areas) sub h =
       serve-more g news more loads areas sub h.1,
     )
 
-fits-one : (options : Options) (e : Taken) → AreReady options (e ∷ []) → Meets e → Fits options (e ∷ []) (positions_of options e None)
+fits-one : (options : Options) (e : Taken) → AreReady options (e ∷ []) → AreForMac options (e ∷ []) → Meets e → Fits options (e ∷ []) (positions_of options e None)
 unfolding positions_of
-fits-one options e ready m =
+fits-one options e ready mac m =
+    let mach = mach-inside options (e ∷ []) (All-cons Meets e [] m (All-nil Meets)) in
     let pe = pe_length-most options (e ∷ []) (All-cons Meets e [] m (All-nil Meets)) in
     let serve = input-serve e BLOCK [] (omega arith) in
     let most = input-end e BLOCK m in
     let table = table-most e m in
     record {
       windows = ready;
+      mac = mac;
       all = refl;
       areas = (serve.0, tt);
       total = ap (end_from BLOCK) (sym (append-nil (input_areas e BLOCK)));
       small = omega arith;
       tables = (refl, refl);
       body = omega arith;
-      mach = omega arith;
+      mach_at = refl;
+      mach_len = refl;
+      mach = mach;
     }
 
-fits-two : (options : Options) (e f : Taken) → AreReady options (e ∷ f ∷ []) → Meets e → Meets f → Fits options (e ∷ f ∷ []) (positions_of options e (Some f))
+fits-two : (options : Options) (e f : Taken) → AreReady options (e ∷ f ∷ []) → AreForMac options (e ∷ f ∷ []) → Meets e → Meets f → Fits options (e ∷ f ∷ []) (positions_of options e (Some f))
 unfolding positions_of
-fits-two options e f ready m n =
+fits-two options e f ready mac m n =
+    let mach = mach-inside options (e ∷ f ∷ []) (All-cons Meets e (f ∷ []) m (All-cons Meets f [] n (All-nil Meets))) in
     let pe = pe_length-most options (e ∷ f ∷ []) (All-cons Meets e (f ∷ []) m (All-cons Meets f [] n (All-nil Meets))) in
     let first : List Area = input_areas e BLOCK in
     let mid : ℕ = end_from BLOCK first in
@@ -103,19 +109,22 @@ fits-two options e f ready m n =
     let other = table-most f n in
     record {
       windows = ready;
+      mac = mac;
       all = refl;
       areas = (one.0, (serve-more (granule_of f.machine) (new_areas mid tail) (new_areas BLOCK (first ++ tail)) f.loads second one.1 two.0, tt));
       total = ap (end_from mid) (sym (append-nil second)) ∙ sym (end-append BLOCK first tail);
       small = omega arith;
       tables = (refl, (refl, refl));
       body = omega arith;
-      mach = omega arith;
+      mach_at = refl;
+      mach_len = refl;
+      mach = mach;
     }
 
 -- the positions of inputs that meet the rules fit
-pub positions-fit : (options : Options) (e : Taken) (o : Option Taken) → AreReady options (inputs_of e o) → Meets e → IfSome o (λ f. Meets f) → Fits options (inputs_of e o) (positions_of options e o)
-positions-fit options e None ready m n = fits-one options e ready m
-positions-fit options e (Some f) ready m n = fits-two options e f ready m n
+pub positions-fit : (options : Options) (e : Taken) (o : Option Taken) → AreReady options (inputs_of e o) → AreForMac options (inputs_of e o) → Meets e → IfSome o (λ f. Meets f) → Fits options (inputs_of e o) (positions_of options e o)
+positions-fit options e None ready mac m n = fits-one options e ready mac m
+positions-fit options e (Some f) ready mac m n = fits-two options e f ready mac m n
 
 -- as many areas as loads
 pub serve-same : (g : ℕ) (news : List Area) (loads : List Load) (areas : List Area) → ServeAll g news loads areas → length areas ≡ length loads

@@ -1,4 +1,4 @@
--- How long the PE headers are at most.
+-- How long the PE headers and the Mach-O header are at most.
 use Rattle.std.proofs.Common.{ℕ, ◌+◌, ◌*◌, ◌≤◌, Bool, true, false, cond, List, [], ◌∷◌, length, All, Option, Some, None, arith}
 use Rattle.std.specs.Prelude.{nat_lt, IfSome}
 use Rattle.std.proofs.lemmas.List.Elements.{All-head, All-tail}
@@ -7,12 +7,13 @@ use Rattle.ap_check.specs.declared.load.Load.{Load}
 use Rattle.ap_check.specs.declared.options.Options.{Options}
 use Rattle.ap_elf.specs.declared.machine.Machine.TheVariants.{X64}
 use Rattle.ap_elf.specs.Machines.{granule_of, is_machine}
-use Rattle.ap_fields.specs.declared.sizes.TheConstants.{PE_SPAN}
-use Rattle.ap_check.specs.Options.{for_windows}
+use Rattle.ap_fields.specs.declared.sizes.TheConstants.{PE_SPAN, WINDOW}
+use Rattle.ap_check.specs.Options.{for_windows, for_mac}
 use Rattle.ap_check.specs.Inputs.{Taken, Meets}
 use Rattle.ap_check.specs.Windows.{x64_of, base_of}
-use Rattle.ap_layout.specs.declared.sizes.TheConstants.{MOST_HEADERS}
+use Rattle.ap_layout.specs.declared.sizes.TheConstants.{MOST_HEADERS, MOST_MACH}
 use Rattle.ap_layout.specs.Headers.{section_count, headers_length, pe_length}
+use Rattle.ap_layout.specs.MachPlaces.{mach_input, place_of, length_of, mach_start, mach_length}
 
 either-most : (b : Bool) → cond b 2 1 ≤ 2
 either-most true = omega arith
@@ -50,3 +51,15 @@ if-most false n most h = omega arith
 pub pe_length-most : (options : Options) (inputs : List Taken) → All Meets inputs → pe_length options inputs ≤ MOST_HEADERS
 pe_length-most options inputs all =
     if-most (for_windows options) (headers_length (x64_of inputs)) MOST_HEADERS (headers-most (x64_of inputs) (x64_of-all Meets inputs all))
+
+-- the Mach-O header
+mach-most : (o : Option Taken) → IfSome o Meets → place_of o + length_of o ≤ WINDOW + MOST_MACH
+mach-most None m = omega arith
+mach-most (Some e) m = let few = m.few in omega arith
+
+chosen-all : (P : Taken → Type 0) (b : Bool) (o : Option Taken) → IfSome o P → IfSome (cond b o None) P
+chosen-all P true o h = h
+chosen-all P false o h = tt
+
+pub mach-inside : (options : Options) (inputs : List Taken) → All Meets inputs → mach_start options inputs + mach_length options inputs ≤ WINDOW + MOST_MACH
+mach-inside options inputs all = mach-most (mach_input options inputs) (chosen-all Meets (for_mac options) (x64_of inputs) (x64_of-all Meets inputs all))

@@ -6,3 +6,4 @@ pub mod HeaderLengths
 pub mod Fitting
 pub mod Made
 pub mod Known
+pub mod X64Places

@@ -1,5 +1,6 @@
 pub mod Areas
 pub mod Headers
+pub mod MachPlaces
 pub mod Positions
 pub mod Apart
 pub mod Stacks

@@ -1,16 +1,18 @@
 -- The positions of a linked file's parts, by its inputs, and what stands of them.
 use Rattle.std.specs.Prelude.{◌≡◌, ℕ, ◌+◌, ◌*◌, ◌<◌, ◌≤◌, List, [], ◌∷◌, ◌++◌, length, map, Option, Some, None}
 use Rattle.std.specs.List.{flat_map}
-use Rattle.ap_fields.specs.declared.sizes.TheConstants.{BLOCK}
+use Rattle.ap_fields.specs.declared.sizes.TheConstants.{BLOCK, WINDOW}
 use Rattle.ap_elf.specs.declared.types.Entry.{Entry}
 use Rattle.ap_elf.specs.declared.constants.TheConstants.{PHDR_SIZE}
 use Rattle.ap_elf.specs.Machines.{granule_of}
 use Rattle.ap_check.specs.declared.options.Options.{Options}
 use Rattle.ap_check.specs.Inputs.{Taken}
 use Rattle.ap_check.specs.Windows.{AreReady}
+use Rattle.ap_check.specs.Mac.{AreForMac}
 use Rattle.ap_layout.specs.declared.layout.Area.{Area}
-use Rattle.ap_layout.specs.declared.sizes.TheConstants.{TABLES, MOST_BODY, FILE_TOP}
+use Rattle.ap_layout.specs.declared.sizes.TheConstants.{TABLES, MOST_BODY, MOST_MACH, FILE_TOP}
 use Rattle.ap_layout.specs.Headers.{pe_length}
+use Rattle.ap_layout.specs.MachPlaces.{mach_start, mach_length}
 use Rattle.ap_layout.specs.Areas.{areas_of, end_from, new_areas, ServeAll}
 
 -- where the areas of each input, the program header tables, the Mach-O header and the ends stand
@@ -25,13 +27,6 @@ pub record Positions : Type 0 where
 -- where the first program header table stands: behind the here-document's opening, ten zeros and the PE headers
 abbrev pub tables_start : Options → List Taken → ℕ
 tables_start options inputs = TABLES + pe_length options inputs
-
--- where the Mach-O header stands in the block's second half, and its length: there is none so far
-abbrev pub mach_start : Options → List Taken → ℕ
-mach_start options inputs = 0
-
-abbrev pub mach_length : Options → List Taken → ℕ
-mach_length options inputs = 0
 
 abbrev pub one_if : Option Entry → ℕ
 one_if None = 0
@@ -111,15 +106,19 @@ abbrev pub AreTables : ℕ → List PlacedInput → ℕ → Type 0
 AreTables at [] end = end ≡ at
 AreTables at (p ∷ ps) end = (p.table ≡ at) × AreTables (at + table_length p.input) ps end
 
--- What writers and readings may suppose of inputs and their positions: where Windows was chosen there is an input for it; each
--- input has its places; every load is served by an area that is empty or one of the new ones, of which no two overlap; the tables
--- follow each other, and end below the window.
+-- What writers and readings may suppose of inputs and their positions: where Windows was chosen there is an input for it, and
+-- where macOS was chosen that for x86-64 starts there; each input has its places; every load is served by an area that is empty or
+-- one of the new ones, of which no two overlap; the tables follow each other, and end below the window; and the Mach-O header, where
+-- there is one, stands behind the window.
 pub record Fits (options : Options) (inputs : List Taken) (l : Positions) : Type 0 where
   pub windows : AreReady options inputs
+  pub mac : AreForMac options inputs
   pub all : only_inputs (placed_inputs inputs l) ≡ inputs
   pub areas : AreServed (new_areas BLOCK (all_areas (placed_inputs inputs l))) (placed_inputs inputs l)
   pub total : l.total ≡ end_from BLOCK (all_areas (placed_inputs inputs l))
   pub small : l.total < FILE_TOP
   pub tables : AreTables (tables_start options inputs) (placed_inputs inputs l) l.body_end
   pub body : l.body_end ≤ MOST_BODY
-  pub mach : l.mach_at + l.mach_len ≤ BLOCK
+  pub mach_at : l.mach_at ≡ mach_start options inputs
+  pub mach_len : l.mach_len ≡ mach_length options inputs
+  pub mach : l.mach_at + l.mach_len ≤ WINDOW + MOST_MACH

@@ -5,11 +5,14 @@ ghost use Rattle.ap_layout.specs.declared.sizes.TheConstants.{TABLES, MOST_HEADE
 ghost use Rattle.ap_layout.specs.Apart.{AllApart, Ascend, FittingIsApart, first_areas};
 ghost use Rattle.ap_check.specs.Inputs.{inputs_of};
 ghost use Rattle.ap_check.specs.Windows.{AreReady};
+ghost use Rattle.ap_check.specs.Mac.{AreForMac};
+ghost use Rattle.ap_layout.specs.MachPlaces.{mach_start, mach_length};
 ghost use Rattle.ap_layout.specs.Positions.{positions_of, tables_start, joined, Fits};
 
 use crate::areas::areas_from;
 use crate::headers::pe_length;
 use crate::layout::Layout;
+use crate::mach::{MachPlace, mach_place};
 use crate::sizes::TABLES;
 use crate::tables::table_length;
 use ap_check::{Input, Job};
@@ -28,9 +31,10 @@ pub fn place(job: &Job<'_>) -> Layout
     ensures ascend { Ascend BLOCK (first_areas result.areas) }
 {
     let start = TABLES + pe_length(job);
+    let mach = mach_place(job);
     match job.second {
-        None => place_one(job, start),
-        Some(second) => place_two(job, second, start),
+        None => place_one(job, start, mach),
+        Some(second) => place_two(job, second, start, mach),
     }
 }
 
@@ -40,10 +44,13 @@ pub fn areas_are_apart()
 {}
 
 // The positions of the first input alone, whose program header table stands at `start`.
-fn place_one(job: &Job<'_>, start: u32) -> Layout
+fn place_one(job: &Job<'_>, start: u32, mach: MachPlace) -> Layout
     requires start { start ≡ tables_start job.now.options (inputs_of job.now.first.now None) }
     requires small { start ≤ TABLES + MOST_HEADERS }
+    requires mach_at { mach.at ≡ mach_start job.now.options (inputs_of job.now.first.now None) }
+    requires mach_len { mach.len ≡ mach_length job.now.options (inputs_of job.now.first.now None) }
     requires ready { AreReady job.now.options (inputs_of job.now.first.now None) }
+    requires mac { AreForMac job.now.options (inputs_of job.now.first.now None) }
     ensures positions { result ≡ positions_of job.now.options job.now.first.now None }
     ensures fits { Fits job.now.options (inputs_of job.now.first.now None) result }
 {
@@ -53,19 +60,24 @@ fn place_one(job: &Job<'_>, start: u32) -> Layout
     Layout {
         areas: [placed.areas, ArrayVec::new()],
         tables,
-        mach_at: 0,
-        mach_len: 0,
+        mach_at: mach.at,
+        mach_len: mach.len,
         body_end: start + table_length(job.first),
         total: placed.end,
     }
 }
 
 // The positions of both inputs.
-fn place_two(job: &Job<'_>, second: &Input, start: u32) -> Layout
+fn place_two(job: &Job<'_>, second: &Input, start: u32, mach: MachPlace) -> Layout
     requires start { start
         ≡ tables_start job.now.options (inputs_of job.now.first.now (Some second.now)) }
     requires small { start ≤ TABLES + MOST_HEADERS }
+    requires mach_at { mach.at
+        ≡ mach_start job.now.options (inputs_of job.now.first.now (Some second.now)) }
+    requires mach_len { mach.len
+        ≡ mach_length job.now.options (inputs_of job.now.first.now (Some second.now)) }
     requires ready { AreReady job.now.options (inputs_of job.now.first.now (Some second.now)) }
+    requires mac { AreForMac job.now.options (inputs_of job.now.first.now (Some second.now)) }
     ensures positions { result ≡ positions_of job.now.options job.now.first.now (Some second.now) }
     ensures fits { Fits job.now.options (inputs_of job.now.first.now (Some second.now)) result }
 {
@@ -78,8 +90,8 @@ fn place_two(job: &Job<'_>, second: &Input, start: u32) -> Layout
     Layout {
         areas: [placed.areas, behind.areas],
         tables,
-        mach_at: 0,
-        mach_len: 0,
+        mach_at: mach.at,
+        mach_len: mach.len,
         body_end: table + table_length(second),
         total: behind.end,
     }

@@ -27,6 +27,18 @@ pub const MOST_SECTIONS: usize = 2 * MOST_LOADS;
 /// The most bytes of the PE headers.
 pub const MOST_HEADERS: u32 = PE_HEADERS + SECTION_HEADER * MOST_SECTIONS as u32;
 
+/// The bytes of a Mach-O file's header, `mach_header_64` (loader.h).
+pub const MACH_HEADER: u32 = 32;
+
+/// The bytes of a segment command without sections, `segment_command_64` (loader.h).
+pub const SEGMENT_COMMAND: u32 = 72;
+
+/// The bytes of a thread command for x86-64: its four numbers, and 21 registers (loader.h, "thread_command").
+pub const THREAD_COMMAND: u32 = 16 + 21 * 8;
+
+/// The most bytes of the Mach-O header: a segment command for the addresses below the loads, and one for each load.
+pub const MOST_MACH: u32 = MACH_HEADER + SEGMENT_COMMAND * (1 + MOST_LOADS as u32) + THREAD_COMMAND;
+
 /// Where the here-document's body ends at the latest: behind the PE headers and the tables of two inputs.
 pub const MOST_BODY: u32 = TABLES + MOST_HEADERS + 2 * MOST_TABLE;
 

@@ -30,7 +30,7 @@ lent-where : (options : Options) (a : List ℕ) (b : Option (List ℕ)) (block :
 lent-where options a b block able h =
     let e : Taken = input_of 1 a in
     let o : Option Taken = taken_second b in
-    let fits = positions-fit options e o able.ready able.first able.second in
+    let fits = positions-fit options e o able.ready able.mac able.first able.second in
     record {
       bytes = λ k low. bytes-lent options (inputs_of e o) (positions_of options e o) (tail_of e a (second_of b)) block k fits h low ∙ ap (λ w. get_or w k 0) (sym (linked-is options a b able));
       owners = λ k low. owners-lent (block_claims options (inputs_of e o) (positions_of options e o)) e a (second_of b) block k h low;

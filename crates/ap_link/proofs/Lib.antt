@@ -12,6 +12,7 @@ pub mod Fitting
 pub mod LinkedImages
 pub mod PlacedTexts
 pub mod PeLinked
+pub mod MachLinked
 pub mod LinkedFiles
 pub mod Building
 pub mod EndsBehind
@@ -29,3 +30,4 @@ pub mod PeWalk
 pub mod PeImageProof
 pub mod ImportDirectories
 pub mod LinkedImports
+pub mod MachImageProof

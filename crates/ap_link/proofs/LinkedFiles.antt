@@ -16,11 +16,12 @@ use Rattle.ap_check.specs.declared.options.Options.{Options}
 use Rattle.ap_check.specs.Options.{for_windows}
 use Rattle.ap_check.specs.Rules.{fault_of, rules_of}
 use Rattle.ap_check.specs.Windows.{windows_rules, AreReady}
+use Rattle.ap_check.specs.Mac.{mach_entry_of, mac_rules, system_rules, AreForMac}
 use Rattle.ap_check.specs.Both.{machines_rules, x64_bytes, first_fault_of_both}
 use Rattle.ap_check.proofs.Laws.{input_meets}
 use Rattle.ap_check.proofs.Pairs.{pair-says}
-use Rattle.ap_check.proofs.WindowsLemmas.{windows-ready}
 use Rattle.ap_elf.specs.declared.machine.Machine.TheVariants.{X64}
+use Rattle.ap_check.proofs.SystemRules.{systems-ready}
 use Rattle.ap_elf.specs.Machines.{granule_of, number_of}
 use Rattle.ap_check.specs.Inputs.{Taken, Meets, input_of, taken_of, loads_of, inputs_of}
 use Rattle.ap_loader.specs.Embedded.{has_magic, taken}
@@ -57,6 +58,10 @@ use Rattle.ap_link.proofs.LinkedImages.{elf-is-same, ape-is-same}
 use Rattle.ap_link.proofs.PeImageProof.{pe-is-same}
 use Rattle.ap_link.proofs.PeLinked.{pe-in, windows-met}
 use Rattle.ap_link.proofs.LinkedImports.{MeetsImports, MeetImports, imports-carried, meet-imports}
+use Rattle.ap_mach.specs.Linked.{mach_text}
+use Rattle.ap_mach.specs.MachReading.{mach_reading}
+use Rattle.ap_link.proofs.MachImageProof.{mach-is-same}
+use Rattle.ap_link.proofs.MachLinked.{dd-moves, mach-text-is, mach-entry-low}
 use Rattle.ap_link.proofs.PlacedTexts.{text-held}
 use Rattle.ap_link.proofs.TakenStatements.{block-magic, taken-block}
 
@@ -72,6 +77,7 @@ loads-taken n b = refl
 -- one or two inputs that may be linked
 pub record AreLinkable (options : Options) (e : Taken) (o : Option Taken) : Type 0 where
   pub ready : AreReady options (inputs_of e o)
+  pub mac : AreForMac options (inputs_of e o)
   pub first : Meets e
   pub second : IfSome o (λ f. Meets f)
   pub differ : IfSome o (λ f. e.machine ≢ f.machine)
@@ -124,15 +130,15 @@ file-of options e a o = block_for options e (bare-of o) ++ tail_of e a o
 
 pub file-length : (options : Options) (e : Taken) (a : List ℕ) (o : Option (Taken × List ℕ)) → AreLinkable options e (bare-of o) → length (file-of options e a o) ≡ (positions_of options e (bare-of o)).total
 file-length options e a o h =
-    let fits = positions-fit options e (bare-of o) h.ready h.first h.second in
+    let fits = positions-fit options e (bare-of o) h.ready h.mac h.first h.second in
     linked-length options e a o (positions_of options e (bare-of o)) (block_for options e (bare-of o)) (length-block options (inputs_of e (bare-of o)) (positions_of options e (bare-of o)) fits) (total-is options e o)
 
 total-small : (options : Options) (e : Taken) (o : Option Taken) → AreLinkable options e o → (positions_of options e o).total < 2 ^ 31
-total-small options e o h = (positions-fit options e o h.ready h.first h.second).small
+total-small options e o h = (positions-fit options e o h.ready h.mac h.first h.second).small
 
 total-past : (options : Options) (e : Taken) (a : List ℕ) (o : Option (Taken × List ℕ)) → AreLinkable options e (bare-of o) → BLOCK ≤ length (file-of options e a o)
 total-past options e a o h =
-    let fits = positions-fit options e (bare-of o) h.ready h.first h.second in
+    let fits = positions-fit options e (bare-of o) h.ready h.mac h.first h.second in
     let l1 = length-block options (inputs_of e (bare-of o)) (positions_of options e (bare-of o)) fits in
     let l2 = length-append (block_for options e (bare-of o)) (tail_of e a o) in
     omega arith
@@ -142,13 +148,13 @@ total-past options e a o h =
 first-held : (options : Options) (e : Taken) (a : List ℕ) (o : Option (Taken × List ℕ)) → AreLinkable options e (bare-of o)
     → HoldAll (granule_of e.machine) (bytes_in a) (file-of options e a o) e.loads (input_areas e BLOCK)
 first-held options e a None h =
-    let fits = positions-fit options e None h.ready h.first h.second in
+    let fits = positions-fit options e None h.ready h.mac h.first h.second in
     let w : List ℕ = block_for options e None in
     let t : List ℕ = input_text BLOCK e a in
     subst (λ x. HoldAll (granule_of e.machine) (bytes_in a) (w ++ x) e.loads (input_areas e BLOCK)) (append-nil t)
     (text-held 0 (granule_of e.machine) (bytes_in a) e.loads BLOCK w [] (granule_of-is e.machine) (omega arith) (length-block options (inputs_of e None) (positions_of options e None) fits))
 first-held options e a (Some (f, b)) h =
-    let fits = positions-fit options e (Some f) h.ready h.first h.second in
+    let fits = positions-fit options e (Some f) h.ready h.mac h.first h.second in
     text-held 0 (granule_of e.machine) (bytes_in a) e.loads BLOCK (block_for options e (Some f)) (input_text (input_end e) f b) (granule_of-is e.machine) (omega arith)
     (length-block options (inputs_of e (Some f)) (positions_of options e (Some f)) fits)
 
@@ -161,7 +167,7 @@ first-linked : (options : Options) (n : ℕ) (a : List ℕ) (o : Option (Taken �
     → IsLinkedIn (input_of n a) (entries_of a) (bytes_in a) (input_areas (input_of n a) BLOCK) (tables_start options (inputs_of (input_of n a) (bare-of o))) (file-of options (input_of n a) a o)
 first-linked options n a o h =
     let e : Taken = input_of n a in
-    let fits = positions-fit options e (bare-of o) h.ready h.first h.second in
+    let fits = positions-fit options e (bare-of o) h.ready h.mac h.first h.second in
     let most = table-most e h.first in
     let pe = pe_length-most options (inputs_of e (bare-of o)) (all-meet options e (bare-of o) h) in
     let size = file-length options e a o h in
@@ -182,7 +188,7 @@ first-linked options n a o h =
 second-held : (options : Options) (e f : Taken) (a b : List ℕ) → AreLinkable options e (Some f)
     → HoldAll (granule_of f.machine) (bytes_in b) (file-of options e a (Some (f, b))) f.loads (input_areas f (input_end e))
 second-held options e f a b h =
-    let fits = positions-fit options e (Some f) h.ready h.first h.second in
+    let fits = positions-fit options e (Some f) h.ready h.mac h.first h.second in
     let w : List ℕ = block_for options e (Some f) in
     let t : List ℕ = input_text BLOCK e a in
     let u : List ℕ = input_text (input_end e) f b in
@@ -203,7 +209,7 @@ second-linked : (options : Options) (n : ℕ) (e : Taken) (a b : List ℕ) → A
     → IsLinkedIn (input_of n b) (entries_of b) (bytes_in b) (input_areas (input_of n b) (input_end e)) (tables_start options (inputs_of e (Some (input_of n b))) + table_length e) (file-of options e a (Some (input_of n b, b)))
 second-linked options n e a b h =
     let f : Taken = input_of n b in
-    let fits = positions-fit options e (Some f) h.ready h.first h.second in
+    let fits = positions-fit options e (Some f) h.ready h.mac h.first h.second in
     let one = table-most e h.first in
     let two = table-most f h.second in
     let pe = pe_length-most options (inputs_of e (Some f)) (all-meet options e (Some f) h) in
@@ -246,7 +252,7 @@ ape-by m page place file header magic is =
 carries : (options : Options) (inputs : List Taken) (l : Positions) (rest : List ℕ) (n table : ℕ) (b : List ℕ) (areas : List Area)
     → All (λ i. Meets i) inputs → MachinesDiffer inputs → Fits options inputs l → IsOneOf (record { input = input_of n b; areas = areas; table = table }) (placed_inputs inputs l)
     → IsLinkedIn (input_of n b) (entries_of b) (bytes_in b) areas table (block_of options inputs l ++ rest) → MeetsImports options b (input_of n b)
-    → Carries options b (input_of n b) table (statement_place options inputs l (input_of n b).machine) (block_of options inputs l ++ rest)
+    → Carries options b (input_of n b) table (statement_place options inputs l (input_of n b).machine) (mach_text options inputs l) (block_of options inputs l ++ rest)
 carries options inputs l rest n table b areas meets differ fits has linked imports =
     let e : Taken = input_of n b in
     let file : List ℕ = block_of options inputs l ++ rest in
@@ -267,6 +273,10 @@ carries options inputs l rest n table b areas meets differ fits has linked impor
           (ape-is-same e (entries_of b) (bytes_in b) areas table file page linked is)));
       pe = λ chosen machine. pe-is-same e (entries_of b) (bytes_in b) areas table (program_of e) file (within chosen machine);
       imports = λ chosen machine. imports-carried e b areas table file (windows-met options inputs l placed differ fits has chosen machine) (within chosen machine) (imports chosen machine);
+      mach = λ chosen machine. subst (λ h. Same 4096 (bytes_in b) (loads_in (entries_of b)) (mach_entry_of e) nothing_else (mach_reading (over file h)))
+          (sym (mach-text-is options inputs l placed differ fits has chosen machine))
+          (mach-is-same e (entries_of b) (bytes_in b) areas table (mach_entry_of e) file linked machine
+          (mach-entry-low options inputs l placed linked.meets differ fits has chosen machine));
     }
 
 -- ---- the whole
@@ -282,7 +292,7 @@ claimed-file : (options : Options) (e : Taken) (a : List ℕ) (o : Option (Taken
     → IsFile (positions_of options e (bare-of o)).total (block_claims options (inputs_of e (bare-of o)) (positions_of options e (bare-of o)) ++ tail_claims e a o) (file-of options e a o)
 claimed-file options e a o h =
     whole-claimed (block_for options e (bare-of o)) (block_claims options (inputs_of e (bare-of o)) (positions_of options e (bare-of o))) e a o (positions_of options e (bare-of o)).total
-    (block-claimed options (inputs_of e (bare-of o)) (positions_of options e (bare-of o)) (positions-fit options e (bare-of o) h.ready h.first h.second)) (file-length options e a o h)
+    (block-claimed options (inputs_of e (bare-of o)) (positions_of options e (bare-of o)) (positions-fit options e (bare-of o) h.ready h.mac h.first h.second)) (file-length options e a o h)
 
 -- the file as it is written is the file of its claims
 pub linked-is : (options : Options) (a : List ℕ) (b : Option (List ℕ)) → AreLinkable options (input_of 1 a) (taken_second b)
@@ -298,7 +308,7 @@ unfolding linked_text
 text-linked options a None h imports =
     let e : Taken = input_of 1 a in
     let l : Positions = positions_of options e None in
-    let fits = positions-fit options e None h.ready h.first h.second in
+    let fits = positions-fit options e None h.ready h.mac h.first h.second in
     let meets = all-meet options e None h in
     let differ = machines-differ options e None h in
     record {
@@ -313,6 +323,7 @@ text-linked options a None h imports =
       first = carries options (inputs_of e None) l (tail_of e a None) 1 (tables_start options (inputs_of e None)) a (input_areas e BLOCK) meets differ fits (first-placed options e None) (first-linked options 1 a None h)
           imports.first;
       second = tt;
+      moved = dd-moves options (inputs_of e None) l (tail_of e a None) fits;
       claims = claimed-file options e a None h;
       agree = claims-agree l.total (linked_claims options a None) (linked_text options a None) (claimed-file options e a None h);
     }
@@ -321,7 +332,7 @@ text-linked options a (Some b) h imports =
     let f : Taken = input_of 2 b in
     let o : Option (Taken × List ℕ) = Some (f, b) in
     let l : Positions = positions_of options e (Some f) in
-    let fits = positions-fit options e (Some f) h.ready h.first h.second in
+    let fits = positions-fit options e (Some f) h.ready h.mac h.first h.second in
     let meets = all-meet options e (Some f) h in
     let differ = machines-differ options e (Some f) h in
     record {
@@ -337,6 +348,7 @@ text-linked options a (Some b) h imports =
           (first-placed options e (Some f)) (first-linked options 1 a o h) imports.first;
       second = carries options (inputs_of e (Some f)) l (tail_of e a o) 2 (tables_start options (inputs_of e (Some f)) + table_length e) b (input_areas f (input_end e)) meets differ fits
           (second-placed options e f) (second-linked options 2 e a b h) imports.second;
+      moved = dd-moves options (inputs_of e (Some f)) l (tail_of e a o) fits;
       claims = claimed-file options e a o h;
       agree = claims-agree l.total (linked_claims options a (Some b)) (linked_text options a (Some b)) (claimed-file options e a o h);
     }
@@ -355,19 +367,22 @@ machines-apart e f none same =
 pub both-linkable : (options : Options) (a : List ℕ) (b : Option (List ℕ)) → first_fault_of_both options a b ≡ None → AreLinkable options (input_of 1 a) (taken_second b)
 both-linkable options a None none =
     let e : Taken = input_of 1 a in
-    let two = append-none (rules_of 1 a) (windows_rules options (e ∷ []) a) none in
-    record { ready = windows-ready options (e ∷ []) a two.1; first = input_meets 1 a two.0; second = tt; differ = tt }
+    let two = append-none (rules_of 1 a) (system_rules options (e ∷ []) a) none in
+    let systems = systems-ready options (e ∷ []) a two.1 in
+    record { ready = systems.0; mac = systems.1; first = input_meets 1 a two.0; second = tt; differ = tt }
 both-linkable options a (Some b) none =
     let e : Taken = input_of 1 a in
     let f : Taken = input_of 2 b in
     let bytes = x64_bytes e a (Some b) in
-    let windows = windows_rules options (e ∷ f ∷ []) bytes in
-    let together : Rules Fault = machines_rules (header_of a).e_machine (header_of b).e_machine ++ windows in
+    let systems = system_rules options (e ∷ f ∷ []) bytes in
+    let together : Rules Fault = machines_rules (header_of a).e_machine (header_of b).e_machine ++ systems in
     let one = append-none (rules_of 1 a) (rules_of 2 b ++ together) none in
     let two = append-none (rules_of 2 b) together one.1 in
-    let taken = append-none (machines_rules (number_of e.machine) (number_of f.machine)) windows (sym (pair-says options a (Some b) e (Some f) ((one.0, refl), (two.0, refl))) ∙ none) in
+    let taken = append-none (machines_rules (number_of e.machine) (number_of f.machine)) systems (sym (pair-says options a (Some b) e (Some f) ((one.0, refl), (two.0, refl))) ∙ none) in
+    let ready = systems-ready options (e ∷ f ∷ []) bytes taken.1 in
     record {
-      ready = windows-ready options (e ∷ f ∷ []) bytes taken.1;
+      ready = ready.0;
+      mac = ready.1;
       first = input_meets 1 a one.0;
       second = input_meets 2 b two.0;
       differ = machines-apart e f taken.0;
@@ -376,12 +391,17 @@ both-linkable options a (Some b) none =
 -- of which those that Windows asks
 windows-pass : (options : Options) (a : List ℕ) (b : Option (List ℕ)) → first_fault_of_both options a b ≡ None
     → first_fault (windows_rules options (inputs_of (input_of 1 a) (taken_second b)) (x64_bytes (input_of 1 a) a b)) ≡ None
-windows-pass options a None none = (append-none (rules_of 1 a) (windows_rules options (input_of 1 a ∷ []) a) none).1
+windows-pass options a None none =
+    let inputs = input_of 1 a ∷ [] in
+    (append-none (windows_rules options inputs a) (mac_rules options inputs) (append-none (rules_of 1 a) (system_rules options inputs a) none).1).0
 windows-pass options a (Some b) none =
-    let windows = windows_rules options (input_of 1 a ∷ input_of 2 b ∷ []) (x64_bytes (input_of 1 a) a (Some b)) in
+    let inputs = input_of 1 a ∷ input_of 2 b ∷ [] in
+    let bytes = x64_bytes (input_of 1 a) a (Some b) in
+    let systems = system_rules options inputs bytes in
     let machines = machines_rules (header_of a).e_machine (header_of b).e_machine in
-    let one = append-none (rules_of 1 a) (rules_of 2 b ++ (machines ++ windows)) none in
-    (append-none machines windows (append-none (rules_of 2 b) (machines ++ windows) one.1).1).1
+    let one = append-none (rules_of 1 a) (rules_of 2 b ++ (machines ++ systems)) none in
+    (append-none (windows_rules options inputs bytes) (mac_rules options inputs)
+    (append-none machines systems (append-none (rules_of 2 b) (machines ++ systems) one.1).1).1).0
 
 -- the linked file of such inputs
 pub file-linked : (options : Options) (a : List ℕ) (b : Option (List ℕ)) → first_fault_of_both options a b ≡ None → IsLinked options a b (linked_of options a b)

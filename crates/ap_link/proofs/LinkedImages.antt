@@ -2,6 +2,7 @@
 use Rattle.std.proofs.Common.{◌≡◌, ℕ, ◌+◌, ◌*◌, ◌≤◌, true, nat_le, nat_lt, ◌==◌, ◌&&◌, List, [], ◌∷◌, ◌++◌, length, map, drop, Option, None, refl, sym, ap, ◌∙◌, subst, arith}
 use Rattle.std.proofs.lemmas.Bool.Decides.{nat_tests}
 use Rattle.ap_fields.specs.Bytes.{over}
+use Rattle.ap_fields.specs.declared.sizes.TheConstants.{BLOCK}
 use Rattle.ap_fields.specs.Fields.{number_at}
 use Rattle.ap_fields.specs.FirstFault.{Rules, first_fault}
 use Rattle.ap_fields.specs.Granules.{IsGranule}
@@ -75,15 +76,16 @@ table-found e entries byte areas at file linked =
     (over-holds file h at (table_text e areas) (omega arith) (omega arith) linked.table)
 
 -- the areas stay where the first bytes are replaced
-held-over : (g : ℕ) (byte : ℕ → ℕ) (file front : List ℕ) (p : Load) (x : Area) → length front ≡ 64 → 64 ≤ length file → IsHeld g byte file p x → IsHeld g byte (over file front) p x
+held-over : (g : ℕ) (byte : ℕ → ℕ) (file front : List ℕ) (p : Load) (x : Area) → length front ≤ BLOCK → length front ≤ length file → IsHeld g byte file p x → IsHeld g byte (over file front) p x
 held-over g byte file front p x long fits held = record {
   bare = held.bare;
+  len = held.len;
   granule = held.granule;
   past = held.past;
   holds = λ some. over-holds file front x.file _ (let past = held.past some in omega arith) (omega arith) (held.holds some);
 }
 
-all-over : (g : ℕ) (byte : ℕ → ℕ) (file front : List ℕ) (loads : List Load) (areas : List Area) → length front ≡ 64 → 64 ≤ length file → HoldAll g byte file loads areas → HoldAll g byte (over file front) loads areas
+pub all-over : (g : ℕ) (byte : ℕ → ℕ) (file front : List ℕ) (loads : List Load) (areas : List Area) → length front ≤ BLOCK → length front ≤ length file → HoldAll g byte file loads areas → HoldAll g byte (over file front) loads areas
 all-over g byte file front [] [] long fits held = tt
 all-over g byte file front [] (x ∷ areas) long fits held = held
 all-over g byte file front (p ∷ loads) [] long fits held = held
@@ -149,7 +151,7 @@ elf-is-same e entries byte areas at file page linked is =
     let long : length h ≡ 64 = length-embedded e at in
     let block = linked.block in let inside = linked.inside in
     let whole : length v ≡ length file = length-over file h (omega arith) in
-    let held = all-over (granule_of e.machine) byte file h e.loads areas long (omega arith) linked.held in
+    let held = all-over (granule_of e.machine) byte file h e.loads areas (omega arith) (omega arith) linked.held in
     let same = same-read e entries byte areas at page v is linked.meets linked.loads held (omega arith) (omega arith) in
     rw (header-found e entries byte areas at file linked, table-found e entries byte areas at file linked) same
 

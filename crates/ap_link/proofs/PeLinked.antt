@@ -17,7 +17,7 @@ use Rattle.ap_check.specs.Windows.{x64_of, base_of, MeetsWindows}
 use Rattle.ap_layout.specs.Positions.{Positions, PlacedInput, Fits, placed_inputs}
 use Rattle.ap_layout.specs.Jobs.{placed_for}
 use Rattle.ap_pe.specs.Linked.{program_of, claims_of, windows_claims}
-use Rattle.ap_pe.proofs.LinkedHeaders.{found-in}
+use Rattle.ap_layout.proofs.X64Places.{found-in}
 use Rattle.ap_pe.proofs.Programs.{entry-within}
 use Rattle.ap_script.specs.Blocks.{block_of}
 use Rattle.ap_script.specs.Stands.{MachinesDiffer, IsOneOf}

@@ -115,7 +115,7 @@ held-bare i g byte p loads c front behind a h rest =
     let others : List Area = areas_of no_sharing (i + 1) g loads c in
     let text : areas_text c g byte (p ∷ loads) (a ∷ others) ≡ areas_text c g byte loads others = text-old c g byte p loads a others h.old in
     let here : IsHeld g byte (front ++ (areas_text c g byte (p ∷ loads) (a ∷ others) ++ behind)) p a =
-    record { bare = λ e. h.area; granule = λ s. absurd (let n = h.none in omega arith); past = λ s. absurd (let n = h.none in omega arith); holds = λ s. absurd (let n = h.none in omega arith) } in
+    record { bare = λ e. h.area; len = λ s. absurd (let n = h.none in omega arith); granule = λ s. absurd (let n = h.none in omega arith); past = λ s. absurd (let n = h.none in omega arith); holds = λ s. absurd (let n = h.none in omega arith) } in
     subst (λ n. HoldAll g byte (front ++ (areas_text c g byte (p ∷ loads) (a ∷ areas_of no_sharing (i + 1) g loads n) ++ behind)) (p ∷ loads) (a ∷ areas_of no_sharing (i + 1) g loads n)) (sym h.next)
     (here, subst (λ x. HoldAll g byte (front ++ (x ++ behind)) loads others) (sym text) rest)
 
@@ -146,6 +146,7 @@ held-put i g byte p loads c front behind a is past long h more =
     let here : IsHeld g byte ((front ++ gap) ++ (content ++ (tail ++ behind))) p a =
     record {
       bare = λ z. absurd (let s = h.some in omega arith);
+      len = λ s. h.len;
       granule = λ s. ap (λ n. n % g) h.file ∙ ceil-even c g is;
       past = λ s. omega arith;
       holds = λ s. holds-part (front ++ gap) content (tail ++ behind) a.file (sym before);

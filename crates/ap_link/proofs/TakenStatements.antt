@@ -25,7 +25,7 @@ use Rattle.ap_script.specs.Script.{header_for}
 use Rattle.ap_script.specs.Delimiter.{delimiter_number}
 use Rattle.ap_check.specs.Options.{for_windows}
 use Rattle.ap_pe.specs.Linked.{headers_place}
-use Rattle.ap_script.specs.Blocks.{magic_line, opening_line, opening, body_of, block_of}
+use Rattle.ap_script.specs.Blocks.{magic_line, opening_line, opening, body_of, second_half, block_of}
 use Rattle.ap_script.specs.Stands.{machines_start, statement_place}
 use Rattle.ap_script.proofs.ScriptParts.{IsHeader}
 use Rattle.ap_script.proofs.BlockParts.{behind_body, front-parts}
@@ -47,7 +47,7 @@ opening-magic options number rest =
 pub block-magic : (options : Options) (inputs : List Taken) (l : Positions) (rest : List ℕ) → has_magic (block_of options inputs l ++ rest) ≡ true
 block-magic options inputs l rest =
     ap has_magic (front-parts options inputs l rest)
-    ∙ opening-magic options (delimiter_number (body_of options inputs l)) ((body_of options inputs l ++ behind_body options inputs l) ++ (zeros (BLOCK - WINDOW) ++ rest))
+    ∙ opening-magic options (delimiter_number (body_of options inputs l)) ((body_of options inputs l ++ behind_body options inputs l) ++ (second_half options inputs l ++ rest))
 
 -- a machine's statement as a loader for a machine of a number reads it
 begins-by : (m : Machine) (header : List ℕ) (n : ℕ) → IsHeader m header → begins_header n header ≡ (number_of m == n)

@@ -7,6 +7,7 @@ pub mod LinkedIn
 pub mod Images
 pub mod PeImages
 pub mod Imported
+pub mod MachImages
 pub mod Answers
 pub mod FileAnswers
 pub mod Lent

@@ -7,13 +7,14 @@ use Rattle.ap_check.specs.declared.load.Load.{Load}
 use Rattle.ap_elf.specs.Machines.{granule_of}
 use Rattle.ap_check.specs.Inputs.{Taken, Meets, loads_of}
 use Rattle.ap_layout.specs.declared.layout.Area.{Area}
-use Rattle.ap_layout.specs.Areas.{content_of, no_area}
+use Rattle.ap_layout.specs.Areas.{content_of, content_length, no_area}
 use Rattle.ap_layout.specs.Positions.{table_length}
 use Rattle.ap_script.specs.Tables.{table_text}
 
--- an area of a file has a load's content, which is none where the load has no bytes in its input's file
+-- an area of a file has a load's content, and its length, which is none where the load has no bytes in its input's file
 pub record IsHeld (g : ℕ) (byte : ℕ → ℕ) (file : List ℕ) (p : Load) (x : Area) : Type 0 where
   pub bare : p.filesz ≡ 0 → x ≡ no_area
+  pub len : 0 < p.filesz → x.len ≡ content_length g p
   pub granule : 0 < p.filesz → x.file % g ≡ 0
   pub past : 0 < p.filesz → BLOCK ≤ x.file
   pub holds : 0 < p.filesz → Holds file x.file (content_of g byte p)

@@ -11,6 +11,7 @@ ghost use Rattle.ap_layout.specs.Jobs.{job_inputs};
 use ap_check::Job;
 use ap_claims::{Block, Clash};
 use ap_layout::Layout;
+use ap_mach::write_mach;
 use ap_pe::write_pe;
 use ap_script::{write_script, write_tables};
 
@@ -36,5 +37,6 @@ fn write(block: &mut Block, job: &Job<'_>, lay: &Layout) -> Result<(), Clash>
 {
     write_pe(block, job, lay)?;
     write_tables(block, job, lay)?;
+    write_mach(block, job, lay)?;
     write_script(block, job, lay)
 }

@@ -17,7 +17,7 @@ mod law; // what an APE loader takes of it
 
 pub use end::LinkEnd;
 pub use fault::LinkFault;
-pub use image::{ape_is_same, elf_is_same, pe_is_same};
+pub use image::{ape_is_same, elf_is_same, mach_is_same, pe_is_same};
 pub use law::{blocks_have_magic, statements_are_taken};
 pub use linker::link;
 pub use stream::link_stream;

@@ -27,6 +27,7 @@ use Rattle.ap_layout.specs.Jobs.{placed_for}
 use Rattle.ap_layout.specs.Stacks.{stack_size}
 use Rattle.ap_layout.proofs.Fitting.{serve-same}
 use Rattle.ap_layout.proofs.HeaderLengths.{count-most, x64_of-all}
+use Rattle.ap_layout.proofs.X64Places.{IsFound, found-in}
 use Rattle.ap_pe.specs.declared.program.Program.{Program}
 use Rattle.ap_pe.specs.Sections.{Named, load_section, section_header, section_table, sections_behind}
 use Rattle.ap_pe.specs.Written.{sections_of, end_of, file_rows, file_header, optional_rows, optional_header, headers_with, pe_headers, is_code, is_data, stack_of}
@@ -65,39 +66,6 @@ length-sections base end (p ∷ loads) [] same = absurd (omega arith)
 length-sections base end (p ∷ loads) (x ∷ areas) same =
     with-gap (nat_lt end (floor_of p.vaddr 4096)) (103, _) (97, load_section base p x) (sections_behind base (ceil_of (p.vaddr + p.memsz) 4096) loads areas)
     ∙ ap (λ n. cond (nat_lt end (floor_of p.vaddr 4096)) 2 1 + n) (length-sections base (ceil_of (p.vaddr + p.memsz) 4096) loads areas (omega arith))
-
--- ---- the input for x86-64
-
--- what is known of it with its places
-pub record IsFound (news : List Area) (p : PlacedInput) : Type 0 where
-  pub machine : p.input.machine ≡ X64
-  pub served : ServeAll 4096 news p.input.loads p.areas
-
-found-case : (news : List Area) (p : PlacedInput) (o : Option PlacedInput) (b : Bool) → is_machine X64 p.input.machine ≡ b → ServeAll (granule_of p.input.machine) news p.input.loads p.areas → IfSome o (IsFound news)
-    → IfSome (cond b (Some p) o) (IsFound news)
-found-case news p o true is served rest =
-    let machine = sym (is_machine-same X64 p.input.machine is) in
-    record { machine = machine; served = subst (λ (m : Machine). ServeAll (granule_of m) news p.input.loads p.areas) machine served }
-found-case news p o false is served rest = rest
-
-found : (news : List Area) (ps : List PlacedInput) → AreServed news ps → IfSome (placed_for X64 ps) (IsFound news)
-found news [] served = tt
-found news (p ∷ ps) served = found-case news p (placed_for X64 ps) (is_machine X64 p.input.machine) refl served.0 (found news ps served.1)
-
-input-case : (p : PlacedInput) (o : Option PlacedInput) (e : Option Taken) (b : Bool) → option_map (λ q. q.input) o ≡ e → option_map (λ q. q.input) (cond b (Some p) o) ≡ cond b (Some p.input) e
-input-case p o e true rest = refl
-input-case p o e false rest = rest
-
-x64-same : (ps : List PlacedInput) → option_map (λ p. p.input) (placed_for X64 ps) ≡ x64_of (only_inputs ps)
-x64-same [] = refl
-x64-same (p ∷ ps) = input-case p (placed_for X64 ps) (x64_of (only_inputs ps)) (is_machine X64 p.input.machine) (x64-same ps)
-
--- where positions fit, it is found among the inputs with their places
-pub found-in : (options : Options) (inputs : List Taken) (l : Positions) → Fits options inputs l
-    → IfSome (placed_for X64 (placed_inputs inputs l)) (IsFound (new_areas BLOCK (all_areas (placed_inputs inputs l)))) × (option_map (λ p. p.input) (placed_for X64 (placed_inputs inputs l)) ≡ x64_of inputs)
-found-in options inputs l fits =
-    let ps = placed_inputs inputs l in
-    (found (new_areas BLOCK (all_areas ps)) ps fits.areas, x64-same ps ∙ ap x64_of fits.all)
 
 -- ---- lengths
 

@@ -16,9 +16,11 @@ use Rattle.ap_layout.specs.Positions.{Positions, Fits, tables_start, placed_inpu
 use Rattle.ap_pe.specs.Claims.{place_bytes}
 use Rattle.ap_pe.specs.Linked.{headers_place, pe_text}
 use Rattle.ap_pe.proofs.LinkedHeaders.{length-pe_text}
+use Rattle.ap_mach.specs.Linked.{mach_text}
+use Rattle.ap_mach.proofs.LinkedHeaders.{text-room}
 use Rattle.ap_script.specs.Script.{header_for}
 use Rattle.ap_script.specs.Delimiter.{digits_of, delimiter, delimiter_number}
-use Rattle.ap_script.specs.Blocks.{magic, magic_line, opening_line, opening, tables_text, body_of, closing, script_for, shell_text, spaces, block_of}
+use Rattle.ap_script.specs.Blocks.{magic, magic_line, opening_line, opening, tables_text, body_of, closing, script_for, shell_text, spaces, second_half, block_of}
 use Rattle.ap_script.specs.Stands.{HoldsTables}
 use Rattle.ap_script.proofs.Quotes.{digit-bare, has_no_quote, is_clear, is_bare, bare-append, bare-clear, bare-no_quote, no_quote-append}
 use Rattle.ap_script.proofs.DelimiterWords.{length-delimiter}
@@ -119,23 +121,32 @@ length-window options inputs l fits =
     let t = length-text options inputs l fits in
     omega arith
 
-pub block-parts : (options : Options) (inputs : List Taken) (l : Positions) (rest : List ℕ) → block_of options inputs l ++ rest ≡ window_text options inputs l ++ (zeros (BLOCK - WINDOW) ++ rest)
+pub length-second : (options : Options) (inputs : List Taken) (l : Positions) → Fits options inputs l → length (second_half options inputs l) ≡ BLOCK - WINDOW
+unfolding second_half
+length-second options inputs l fits =
+    let n : ℕ = length (mach_text options inputs l) in
+    let a = length-append (mach_text options inputs l) (zeros (BLOCK - WINDOW - n)) in
+    let z = length-zeros (BLOCK - WINDOW - n) in
+    let room = text-room options inputs l fits in
+    omega arith
+
+pub block-parts : (options : Options) (inputs : List Taken) (l : Positions) (rest : List ℕ) → block_of options inputs l ++ rest ≡ window_text options inputs l ++ (second_half options inputs l ++ rest)
 unfolding block_of
 block-parts options inputs l rest =
     let text = shell_text options inputs l in
     let fill = spaces (WINDOW - length text) in
-    ap (λ r. r ++ rest) (sym (append_assoc text fill (zeros (BLOCK - WINDOW))))
-    ∙ append_assoc (text ++ fill) (zeros (BLOCK - WINDOW)) rest
+    ap (λ r. r ++ rest) (sym (append_assoc text fill (second_half options inputs l)))
+    ∙ append_assoc (text ++ fill) (second_half options inputs l) rest
 
 pub length-block : (options : Options) (inputs : List Taken) (l : Positions) → Fits options inputs l → length (block_of options inputs l) ≡ BLOCK
 unfolding block_of
 length-block options inputs l fits =
     let text = shell_text options inputs l in
     let n : ℕ = length text in
-    let a = length-append text (spaces (WINDOW - n) ++ zeros (BLOCK - WINDOW)) in
-    let b = length-append (spaces (WINDOW - n)) (zeros (BLOCK - WINDOW)) in
+    let a = length-append text (spaces (WINDOW - n) ++ second_half options inputs l) in
+    let b = length-append (spaces (WINDOW - n)) (second_half options inputs l) in
     let s = length-spaces (WINDOW - n) in
-    let z = length-zeros (BLOCK - WINDOW) in
+    let z = length-second options inputs l fits in
     let x = length-text options inputs l fits in
     omega arith
 
@@ -199,23 +210,23 @@ opening-parts options number rest =
     (holds-part [] (magic options) (codes "\n" ++ (behind ++ rest)) 0 refl)
 
 pub front-parts : (options : Options) (inputs : List Taken) (l : Positions) (rest : List ℕ)
-    → block_of options inputs l ++ rest ≡ opening options (delimiter_number (body_of options inputs l)) ++ ((body_of options inputs l ++ behind_body options inputs l) ++ (zeros (BLOCK - WINDOW) ++ rest))
+    → block_of options inputs l ++ rest ≡ opening options (delimiter_number (body_of options inputs l)) ++ ((body_of options inputs l ++ behind_body options inputs l) ++ (second_half options inputs l ++ rest))
 front-parts options inputs l rest =
     block-parts options inputs l rest
-    ∙ ap (λ r. r ++ (zeros (BLOCK - WINDOW) ++ rest)) (window-parts options inputs l)
-    ∙ append_assoc (opening options (delimiter_number (body_of options inputs l))) (body_of options inputs l ++ behind_body options inputs l) (zeros (BLOCK - WINDOW) ++ rest)
+    ∙ ap (λ r. r ++ (second_half options inputs l ++ rest)) (window-parts options inputs l)
+    ∙ append_assoc (opening options (delimiter_number (body_of options inputs l))) (body_of options inputs l ++ behind_body options inputs l) (second_half options inputs l ++ rest)
 
 pub block-begins : (options : Options) (inputs : List Taken) (l : Positions) (rest : List ℕ) → Holds (block_of options inputs l ++ rest) 0 (magic options)
 block-begins options inputs l rest =
     subst (λ w. Holds w 0 (magic options)) (sym (front-parts options inputs l rest))
-    (opening-parts options (delimiter_number (body_of options inputs l)) ((body_of options inputs l ++ behind_body options inputs l) ++ (zeros (BLOCK - WINDOW) ++ rest)))
+    (opening-parts options (delimiter_number (body_of options inputs l)) ((body_of options inputs l ++ behind_body options inputs l) ++ (second_half options inputs l ++ rest)))
 
 -- the body
 pub block-body : (options : Options) (inputs : List Taken) (l : Positions) (rest : List ℕ) → Holds (block_of options inputs l ++ rest) 86 (body_of options inputs l)
 block-body options inputs l rest =
     let k = delimiter_number (body_of options inputs l) in
     let behind = behind_body options inputs l in
-    let end = zeros (BLOCK - WINDOW) ++ rest in
+    let end = second_half options inputs l ++ rest in
     let parts : block_of options inputs l ++ rest ≡ opening options k ++ (body_of options inputs l ++ (behind ++ end)) =
     front-parts options inputs l rest ∙ ap (λ r. opening options k ++ r) (append_assoc (body_of options inputs l) behind end) in
     subst (λ w. Holds w 86 (body_of options inputs l)) (sym parts) (holds-part (opening options k) (body_of options inputs l) (behind ++ end) 86 (sym (length-opening options k)))
@@ -234,7 +245,7 @@ pub block-tables : (options : Options) (inputs : List Taken) (l : Positions) (re
 block-tables options inputs l rest fits =
     let k = delimiter_number (body_of options inputs l) in
     let behind = behind_body options inputs l in
-    let end = zeros (BLOCK - WINDOW) ++ rest in
+    let end = second_half options inputs l ++ rest in
     let front = opening options k ++ (zeros 10 ++ pe_text options inputs l) in
     let parts : block_of options inputs l ++ rest ≡ front ++ (tables_text (placed_inputs inputs l) ++ (behind ++ end)) =
     front-parts options inputs l rest ∙ ap (λ r. opening options k ++ r) (append_assoc (body_of options inputs l) behind end) ∙ tables-in options inputs l k (behind ++ end) in

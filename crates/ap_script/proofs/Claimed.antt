@@ -1,5 +1,5 @@
 -- The block is the file of its claims.
-use Rattle.std.proofs.Common.{◌≡◌, inl, inr, ℕ, zero, suc, ◌+◌, ◌-◌, ◌<◌, Bool, true, false, cond, get_or, List, [], ◌∷◌, ◌++◌, length, Option, Some, None, refl, sym, ap, ◌∙◌, subst, arith, length-append, append_assoc, append-nil}
+use Rattle.std.proofs.Common.{◌≡◌, inl, inr, ℕ, zero, suc, ◌+◌, ◌-◌, ◌<◌, ◌≤◌, Bool, true, false, cond, get_or, List, [], ◌∷◌, ◌++◌, length, Option, Some, None, refl, sym, ap, ◌∙◌, subst, arith, length-append, append_assoc, append-nil}
 use Rattle.std.specs.Prelude.{IsSomeAnd, codes}
 use Rattle.std.specs.Option.{is_some, option_map}
 use Rattle.ap_fields.specs.declared.sizes.TheConstants.{BLOCK, WINDOW}
@@ -7,7 +7,7 @@ use Rattle.ap_fields.specs.Bytes.{zeros, Holds}
 use Rattle.ap_fields.specs.Fields.{bytes_of}
 use Rattle.ap_fields.proofs.Bytes.{holds-front}
 use Rattle.ap_fields.proofs.Numbers.{length-bytes_of}
-use Rattle.ap_claims.specs.declared.owner.Owner.TheVariants.{Shell, Dos, Pe, Ape, Elf}
+use Rattle.ap_claims.specs.declared.owner.Owner.TheVariants.{Shell, Dos, Pe, Ape, Elf, Mach}
 use Rattle.ap_claims.specs.Lists.{Claim, Among, claim, end_of}
 use Rattle.ap_claims.specs.Files.{IsFile}
 use Rattle.ap_claims.proofs.Growing.{IsFrom, no-text, front-claim, front-zeros, no-file, joined-file, added-file, turned-file, among-either, among-front, among-behind}
@@ -23,11 +23,14 @@ use Rattle.ap_layout.specs.Positions.{Positions, PlacedInput, Fits, AreServed, A
 use Rattle.ap_layout.specs.Jobs.{placed_for}
 use Rattle.ap_pe.specs.Claims.{mark_bytes, place_bytes}
 use Rattle.ap_pe.specs.Linked.{headers_of, claims_of, headers_place, pe_text}
-use Rattle.ap_pe.proofs.LinkedHeaders.{found-in, length-pe_text}
+use Rattle.ap_pe.proofs.LinkedHeaders.{length-pe_text}
+use Rattle.ap_layout.proofs.X64Places.{found-in}
+use Rattle.ap_mach.specs.Linked.{mach_place, header_text, mach_text, header_claims, mac_claims}
+use Rattle.ap_mach.proofs.LinkedHeaders.{text-room, place-is}
 use Rattle.ap_script.specs.Tables.{table_text}
 use Rattle.ap_script.specs.Script.{header_for}
 use Rattle.ap_script.specs.Delimiter.{delimiter_number}
-use Rattle.ap_script.specs.Blocks.{magic, magic_line, opening_line, opening, tables_text, body_of, ending_of, block_of}
+use Rattle.ap_script.specs.Blocks.{magic, magic_line, opening_line, opening, tables_text, body_of, ending_of, second_half, block_of}
 use Rattle.ap_script.specs.Stands.{statement_place}
 use Rattle.ap_script.specs.Claims.{table_claims, statement_claims, block_claims, BlockIsClaimed}
 use Rattle.ap_script.proofs.TableLengths.{length-table_text}
@@ -118,16 +121,33 @@ abbrev placed_claims : Options → List Taken → Positions → List Claim → L
 placed_claims options inputs l place headers =
     claim Shell 0 (magic_line options)
     ∷ (place ++ (claim Shell 64 (opening_line (delimiter_number (body_of options inputs l)))
-    ∷ (headers ++ (table_claims (placed_inputs inputs l) ++ (claim Shell l.body_end (ending_of options inputs l) ∷ [])))))
+    ∷ (headers ++ (table_claims (placed_inputs inputs l) ++ (claim Shell l.body_end (ending_of options inputs l) ∷ (mac_claims options inputs l ++ []))))))
 
 -- the second half
-no-claims : IsFrom WINDOW [] (zeros (BLOCK - WINDOW) ++ [])
-no-claims = front-zeros WINDOW (BLOCK - WINDOW) BLOCK [] [] refl (no-text BLOCK)
+from-header : (o : Option PlacedInput) (at : ℕ) → (is_some o ≡ true → at ≡ WINDOW) → length (header_text o) ≤ BLOCK - WINDOW
+    → IsFrom WINDOW (header_claims at o) ((header_text o ++ zeros (BLOCK - WINDOW - length (header_text o))) ++ [])
+from-header None at is few = front-zeros WINDOW (BLOCK - WINDOW) BLOCK [] [] refl (no-text BLOCK)
+from-header (Some p) at is few =
+    let text = header_text (Some p) in
+    let n : ℕ = length text in
+    let c = claim Mach at text in
+    let place = is refl in
+    let rest = front-zeros (WINDOW + n) (BLOCK - WINDOW - n) BLOCK [] [] (omega arith) (no-text BLOCK) in
+    let behind : WINDOW + n ≡ end_of c = omega arith in
+    subst (λ m. IsFrom m (c ∷ []) ((text ++ zeros (BLOCK - WINDOW - n)) ++ [])) place
+    (subst (IsFrom at (c ∷ [])) (sym (append_assoc text (zeros (BLOCK - WINDOW - n)) []))
+    (front-claim c [] (zeros (BLOCK - WINDOW - n) ++ []) (subst (λ m. IsFrom m [] (zeros (BLOCK - WINDOW - n) ++ [])) behind rest)))
+
+from-second : (options : Options) (inputs : List Taken) (l : Positions) → Fits options inputs l → IsFrom WINDOW (mac_claims options inputs l ++ []) (second_half options inputs l ++ [])
+unfolding second_half
+from-second options inputs l fits =
+    subst (λ (claims : List Claim). IsFrom WINDOW claims (second_half options inputs l ++ [])) (sym (append-nil (mac_claims options inputs l)))
+    (from-header (mach_place options inputs l) l.mach_at (place-is options inputs l fits) (text-room options inputs l fits))
 
 block-texts : (options : Options) (inputs : List Taken) (l : Positions)
     → block_of options inputs l ++ []
     ≡ magic_line options ++ (zeros 51 ++ (headers_place options ++ (opening_line (delimiter_number (body_of options inputs l))
-    ++ (zeros 10 ++ (pe_text options inputs l ++ (tables_text (placed_inputs inputs l) ++ (ending_of options inputs l ++ (zeros (BLOCK - WINDOW) ++ []))))))))
+    ++ (zeros 10 ++ (pe_text options inputs l ++ (tables_text (placed_inputs inputs l) ++ (ending_of options inputs l ++ (second_half options inputs l ++ []))))))))
 unfolding opening body_of
 block-texts options inputs l =
     let line = opening_line (delimiter_number (body_of options inputs l)) in
@@ -135,7 +155,7 @@ block-texts options inputs l =
     let pe = pe_text options inputs l in
     let tables = tables_text (placed_inputs inputs l) in
     let ending = ending_of options inputs l in
-    let rest = zeros (BLOCK - WINDOW) ++ [] in
+    let rest = second_half options inputs l ++ [] in
     let texts = zeros 10 ++ (pe ++ (tables ++ (ending ++ rest))) in
     front-parts options inputs l []
     ∙ ap (λ r. (magic_line options ++ (zeros 51 ++ (place ++ line))) ++ r)
@@ -151,13 +171,14 @@ from-block options inputs l fits w =
     let first = claim Shell 0 (magic_line options) in
     let second = claim Shell 64 line in
     let last = claim Shell l.body_end (ending_of options inputs l) in
+    let mac = mac_claims options inputs l ++ [] in
     let long = ending-long options inputs l fits in
     let nine = length-magic_line options in
-    let behind = ending_of options inputs l ++ (zeros (BLOCK - WINDOW) ++ []) in
-    let ending : IsFrom l.body_end (last ∷ []) behind =
-    front-claim last [] (zeros (BLOCK - WINDOW) ++ []) (subst (λ n. IsFrom n [] (zeros (BLOCK - WINDOW) ++ [])) (sym long) no-claims) in
-    let tables = from-tables (new_areas BLOCK (all_areas (placed_inputs inputs l))) (tables_start options inputs) l.body_end (placed_inputs inputs l) (last ∷ []) behind fits.areas fits.tables ending in
-    let later = table_claims (placed_inputs inputs l) ++ (last ∷ []) in
+    let behind = ending_of options inputs l ++ (second_half options inputs l ++ []) in
+    let ending : IsFrom l.body_end (last ∷ mac) behind =
+    front-claim last mac (second_half options inputs l ++ []) (subst (λ n. IsFrom n mac (second_half options inputs l ++ [])) (sym long) (from-second options inputs l fits)) in
+    let tables = from-tables (new_areas BLOCK (all_areas (placed_inputs inputs l))) (tables_start options inputs) l.body_end (placed_inputs inputs l) (last ∷ mac) behind fits.areas fits.tables ending in
+    let later = table_claims (placed_inputs inputs l) ++ (last ∷ mac) in
     let texts = tables_text (placed_inputs inputs l) ++ behind in
     let body = w.headed later texts tables in
     let opened = front-claim second (w.headers ++ later) (zeros 10 ++ (pe_text options inputs l ++ texts))
@@ -204,74 +225,79 @@ turned xs ys place same c h =
     among-part c ys (place i) (subst (Among c) (same i found.1) found.2)
 
 -- the parts in the order of the proof, and in that in which they are made
-abbrev by_proof : Claim → Claim → Claim → Claim → List Claim → List Claim → List Claim → List Claim → List Claim → List Claim → List (List Claim)
-by_proof a b d e x y mark place headers tables = (a ∷ []) ∷ x ∷ y ∷ mark ∷ (b ∷ []) ∷ place ∷ (d ∷ []) ∷ headers ∷ tables ∷ (e ∷ []) ∷ []
+abbrev by_proof : Claim → Claim → Claim → Claim → List Claim → List Claim → List Claim → List Claim → List Claim → List Claim → List Claim → List (List Claim)
+by_proof a b d e x y mark place headers tables mac = (a ∷ []) ∷ x ∷ y ∷ mark ∷ (b ∷ []) ∷ place ∷ (d ∷ []) ∷ headers ∷ tables ∷ (e ∷ []) ∷ mac ∷ []
 
-abbrev by_writers : Claim → Claim → Claim → Claim → List Claim → List Claim → List Claim → List Claim → List Claim → List Claim → List (List Claim)
-by_writers a b d e x y mark place headers tables = mark ∷ place ∷ headers ∷ tables ∷ (a ∷ []) ∷ x ∷ y ∷ (b ∷ []) ∷ (d ∷ []) ∷ (e ∷ []) ∷ []
+abbrev by_writers : Claim → Claim → Claim → Claim → List Claim → List Claim → List Claim → List Claim → List Claim → List Claim → List Claim → List (List Claim)
+by_writers a b d e x y mark place headers tables mac = mark ∷ place ∷ headers ∷ tables ∷ mac ∷ (a ∷ []) ∷ x ∷ y ∷ (b ∷ []) ∷ (d ∷ []) ∷ (e ∷ []) ∷ []
 
 there : ℕ → ℕ
-there zero = 4
-there (suc zero) = 5
-there (suc (suc zero)) = 6
+there zero = 5
+there (suc zero) = 6
+there (suc (suc zero)) = 7
 there (suc (suc (suc zero))) = 0
-there (suc (suc (suc (suc zero)))) = 7
+there (suc (suc (suc (suc zero)))) = 8
 there (suc (suc (suc (suc (suc zero))))) = 1
-there (suc (suc (suc (suc (suc (suc zero)))))) = 8
+there (suc (suc (suc (suc (suc (suc zero)))))) = 9
 there (suc (suc (suc (suc (suc (suc (suc zero))))))) = 2
 there (suc (suc (suc (suc (suc (suc (suc (suc zero)))))))) = 3
-there (suc (suc (suc (suc (suc (suc (suc (suc (suc i))))))))) = 9
+there (suc (suc (suc (suc (suc (suc (suc (suc (suc zero))))))))) = 10
+there (suc (suc (suc (suc (suc (suc (suc (suc (suc (suc i)))))))))) = 4
 
-same-there : (a b d e : Claim) (x y mark place headers tables : List Claim) (i : ℕ) → i < 10
-    → get_or (by_proof a b d e x y mark place headers tables) i [] ≡ get_or (by_writers a b d e x y mark place headers tables) (there i) []
+same-there : (a b d e : Claim) (x y mark place headers tables mac : List Claim) (i : ℕ) → i < 11
+    → get_or (by_proof a b d e x y mark place headers tables mac) i [] ≡ get_or (by_writers a b d e x y mark place headers tables mac) (there i) []
 unfolding there
-same-there a b d e x y mark place headers tables zero low = refl
-same-there a b d e x y mark place headers tables (suc zero) low = refl
-same-there a b d e x y mark place headers tables (suc (suc zero)) low = refl
-same-there a b d e x y mark place headers tables (suc (suc (suc zero))) low = refl
-same-there a b d e x y mark place headers tables (suc (suc (suc (suc zero)))) low = refl
-same-there a b d e x y mark place headers tables (suc (suc (suc (suc (suc zero))))) low = refl
-same-there a b d e x y mark place headers tables (suc (suc (suc (suc (suc (suc zero)))))) low = refl
-same-there a b d e x y mark place headers tables (suc (suc (suc (suc (suc (suc (suc zero))))))) low = refl
-same-there a b d e x y mark place headers tables (suc (suc (suc (suc (suc (suc (suc (suc zero)))))))) low = refl
-same-there a b d e x y mark place headers tables (suc (suc (suc (suc (suc (suc (suc (suc (suc zero))))))))) low = refl
-same-there a b d e x y mark place headers tables (suc (suc (suc (suc (suc (suc (suc (suc (suc (suc i)))))))))) low = absurd (omega arith)
+same-there a b d e x y mark place headers tables mac zero low = refl
+same-there a b d e x y mark place headers tables mac (suc zero) low = refl
+same-there a b d e x y mark place headers tables mac (suc (suc zero)) low = refl
+same-there a b d e x y mark place headers tables mac (suc (suc (suc zero))) low = refl
+same-there a b d e x y mark place headers tables mac (suc (suc (suc (suc zero)))) low = refl
+same-there a b d e x y mark place headers tables mac (suc (suc (suc (suc (suc zero))))) low = refl
+same-there a b d e x y mark place headers tables mac (suc (suc (suc (suc (suc (suc zero)))))) low = refl
+same-there a b d e x y mark place headers tables mac (suc (suc (suc (suc (suc (suc (suc zero))))))) low = refl
+same-there a b d e x y mark place headers tables mac (suc (suc (suc (suc (suc (suc (suc (suc zero)))))))) low = refl
+same-there a b d e x y mark place headers tables mac (suc (suc (suc (suc (suc (suc (suc (suc (suc zero))))))))) low = refl
+same-there a b d e x y mark place headers tables mac (suc (suc (suc (suc (suc (suc (suc (suc (suc (suc zero)))))))))) low = refl
+same-there a b d e x y mark place headers tables mac (suc (suc (suc (suc (suc (suc (suc (suc (suc (suc (suc i))))))))))) low = absurd (omega arith)
 
 back : ℕ → ℕ
 back zero = 3
 back (suc zero) = 5
 back (suc (suc zero)) = 7
 back (suc (suc (suc zero))) = 8
-back (suc (suc (suc (suc zero)))) = 0
-back (suc (suc (suc (suc (suc zero))))) = 1
-back (suc (suc (suc (suc (suc (suc zero)))))) = 2
-back (suc (suc (suc (suc (suc (suc (suc zero))))))) = 4
-back (suc (suc (suc (suc (suc (suc (suc (suc zero)))))))) = 6
-back (suc (suc (suc (suc (suc (suc (suc (suc (suc i))))))))) = 9
+back (suc (suc (suc (suc zero)))) = 10
+back (suc (suc (suc (suc (suc zero))))) = 0
+back (suc (suc (suc (suc (suc (suc zero)))))) = 1
+back (suc (suc (suc (suc (suc (suc (suc zero))))))) = 2
+back (suc (suc (suc (suc (suc (suc (suc (suc zero)))))))) = 4
+back (suc (suc (suc (suc (suc (suc (suc (suc (suc zero))))))))) = 6
+back (suc (suc (suc (suc (suc (suc (suc (suc (suc (suc i)))))))))) = 9
 
-same-back : (a b d e : Claim) (x y mark place headers tables : List Claim) (i : ℕ) → i < 10
-    → get_or (by_writers a b d e x y mark place headers tables) i [] ≡ get_or (by_proof a b d e x y mark place headers tables) (back i) []
+same-back : (a b d e : Claim) (x y mark place headers tables mac : List Claim) (i : ℕ) → i < 11
+    → get_or (by_writers a b d e x y mark place headers tables mac) i [] ≡ get_or (by_proof a b d e x y mark place headers tables mac) (back i) []
 unfolding back
-same-back a b d e x y mark place headers tables zero low = refl
-same-back a b d e x y mark place headers tables (suc zero) low = refl
-same-back a b d e x y mark place headers tables (suc (suc zero)) low = refl
-same-back a b d e x y mark place headers tables (suc (suc (suc zero))) low = refl
-same-back a b d e x y mark place headers tables (suc (suc (suc (suc zero)))) low = refl
-same-back a b d e x y mark place headers tables (suc (suc (suc (suc (suc zero))))) low = refl
-same-back a b d e x y mark place headers tables (suc (suc (suc (suc (suc (suc zero)))))) low = refl
-same-back a b d e x y mark place headers tables (suc (suc (suc (suc (suc (suc (suc zero))))))) low = refl
-same-back a b d e x y mark place headers tables (suc (suc (suc (suc (suc (suc (suc (suc zero)))))))) low = refl
-same-back a b d e x y mark place headers tables (suc (suc (suc (suc (suc (suc (suc (suc (suc zero))))))))) low = refl
-same-back a b d e x y mark place headers tables (suc (suc (suc (suc (suc (suc (suc (suc (suc (suc i)))))))))) low = absurd (omega arith)
+same-back a b d e x y mark place headers tables mac zero low = refl
+same-back a b d e x y mark place headers tables mac (suc zero) low = refl
+same-back a b d e x y mark place headers tables mac (suc (suc zero)) low = refl
+same-back a b d e x y mark place headers tables mac (suc (suc (suc zero))) low = refl
+same-back a b d e x y mark place headers tables mac (suc (suc (suc (suc zero)))) low = refl
+same-back a b d e x y mark place headers tables mac (suc (suc (suc (suc (suc zero))))) low = refl
+same-back a b d e x y mark place headers tables mac (suc (suc (suc (suc (suc (suc zero)))))) low = refl
+same-back a b d e x y mark place headers tables mac (suc (suc (suc (suc (suc (suc (suc zero))))))) low = refl
+same-back a b d e x y mark place headers tables mac (suc (suc (suc (suc (suc (suc (suc (suc zero)))))))) low = refl
+same-back a b d e x y mark place headers tables mac (suc (suc (suc (suc (suc (suc (suc (suc (suc zero))))))))) low = refl
+same-back a b d e x y mark place headers tables mac (suc (suc (suc (suc (suc (suc (suc (suc (suc (suc zero)))))))))) low = refl
+same-back a b d e x y mark place headers tables mac (suc (suc (suc (suc (suc (suc (suc (suc (suc (suc (suc i))))))))))) low = absurd (omega arith)
 
-writers-are : (a b d e : Claim) (x y mark place headers tables : List Claim)
-    → joined (by_writers a b d e x y mark place headers tables) ≡ (mark ++ (place ++ headers)) ++ (tables ++ ((a ∷ (x ++ y)) ++ (b ∷ d ∷ e ∷ [])))
-writers-are a b d e x y mark place headers tables =
+writers-are : (a b d e : Claim) (x y mark place headers tables mac : List Claim)
+    → joined (by_writers a b d e x y mark place headers tables mac) ≡ (mark ++ (place ++ headers)) ++ (tables ++ (mac ++ ((a ∷ (x ++ y)) ++ (b ∷ d ∷ e ∷ []))))
+writers-are a b d e x y mark place headers tables mac =
     let shell = b ∷ d ∷ e ∷ [] in
     let ape = a ∷ (x ++ y) in
-    sym (append_assoc mark (place ++ headers) (tables ++ (ape ++ shell))
-    ∙ ap (λ r. mark ++ r) (append_assoc place headers (tables ++ (ape ++ shell)))
-    ∙ ap (λ r. mark ++ (place ++ (headers ++ (tables ++ (a ∷ r))))) (append_assoc x y shell))
+    let rest = tables ++ (mac ++ (ape ++ shell)) in
+    sym (append_assoc mark (place ++ headers) rest
+    ∙ ap (λ r. mark ++ r) (append_assoc place headers rest)
+    ∙ ap (λ r. mark ++ (place ++ (headers ++ (tables ++ (mac ++ (a ∷ r)))))) (append_assoc x y shell))
 
 pub block-claimed : BlockIsClaimed
 block-claimed options inputs l fits =
@@ -282,6 +308,7 @@ block-claimed options inputs l fits =
     let x = statement_claims x64 (statement_place options inputs l X64) in
     let y = statement_claims a64 (statement_place options inputs l A64) in
     let tables = table_claims (placed_inputs inputs l) in
+    let mac = mac_claims options inputs l in
     let a = claim Ape 0 (magic options) in
     let b = claim Shell 0 (magic_line options) in
     let d = claim Shell 64 (opening_line (delimiter_number (body_of options inputs l))) in
@@ -294,12 +321,12 @@ block-claimed options inputs l fits =
     let second = held-statement options inputs l A64 a64 (w.mark ++ claims) fits refl marked in
     let first = held-statement options inputs l X64 x64 (y ++ (w.mark ++ claims)) fits refl second in
     let all = added-file BLOCK a (x ++ (y ++ (w.mark ++ claims))) block (block-begins options inputs l []) first in
-    let proof = by_proof a b d e x y w.mark w.place w.headers tables in
-    let writers = by_writers a b d e x y w.mark w.place w.headers tables in
+    let proof = by_proof a b d e x y w.mark w.place w.headers tables mac in
+    let writers = by_writers a b d e x y w.mark w.place w.headers tables mac in
     let are : joined writers ≡ block_claims options inputs l =
-    writers-are a b d e x y w.mark w.place w.headers tables ∙ ap (λ r. r ++ (tables ++ ((a ∷ (x ++ y)) ++ (b ∷ d ∷ e ∷ [])))) (sym w.all) in
+    writers-are a b d e x y w.mark w.place w.headers tables mac ∙ ap (λ r. r ++ (tables ++ (mac ++ ((a ∷ (x ++ y)) ++ (b ∷ d ∷ e ∷ []))))) (sym w.all) in
     subst (IsFile BLOCK (block_claims options inputs l)) (append-nil (block_of options inputs l))
     (subst (λ (claims : List Claim). IsFile BLOCK claims block) are
     (turned-file BLOCK (joined proof) (joined writers) block
-    (turned proof writers there (same-there a b d e x y w.mark w.place w.headers tables))
-    (turned writers proof back (same-back a b d e x y w.mark w.place w.headers tables)) all))
+    (turned proof writers there (same-there a b d e x y w.mark w.place w.headers tables mac))
+    (turned writers proof back (same-back a b d e x y w.mark w.place w.headers tables mac)) all))

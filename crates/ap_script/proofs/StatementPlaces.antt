@@ -16,7 +16,7 @@ use Rattle.ap_check.specs.Inputs.{Taken, Meets}
 use Rattle.ap_layout.specs.Positions.{Positions, Fits, placed_inputs}
 use Rattle.ap_script.specs.Script.{machine_start, machine_lines, script_of, header_for}
 use Rattle.ap_script.specs.Delimiter.{delimiter_number}
-use Rattle.ap_script.specs.Blocks.{opening, body_of, closing, script_for, shell_text, spaces, block_of}
+use Rattle.ap_script.specs.Blocks.{opening, body_of, closing, script_for, shell_text, spaces, second_half, block_of}
 use Rattle.ap_script.specs.Stands.{machines_start, statement_place, place_if, statement_places}
 use Rattle.ap_script.proofs.Quotes.{has_no_quote-says, bare-no_quote, bare-octals, no_quote-spaces}
 use Rattle.ap_script.proofs.Openings.{word, holds-cut, not-in-zeros, apart-zero, apart-newline, parted, Marked, marked-append, marked-quiet, marks-clear, marks-hold, Parts, parts-behind, parts-front, parts-holds}
@@ -115,7 +115,7 @@ opens-places options inputs l rest k meets fits o =
     let long = length-window options inputs l fits in
     let within = o.within in
     holds-places options inputs l k meets fits
-    (holds-cut (window_text options inputs l) (zeros (BLOCK - WINDOW) ++ rest) k (omega arith) (subst (λ w. Holds w k word) (block-parts options inputs l rest) o.stands))
+    (holds-cut (window_text options inputs l) (second_half options inputs l ++ rest) k (omega arith) (subst (λ w. Holds w k word) (block-parts options inputs l rest) o.stands))
 
 -- ---- there
 
@@ -155,7 +155,7 @@ pub parts-block : (options : Options) (inputs : List Taken) (l : Positions) (res
     → Parts (block_of options inputs l ++ rest) (statement_place options inputs l m) header
 parts-block options inputs l rest m header fits is =
     subst (λ w. Parts w (statement_place options inputs l m) header) (sym (block-parts options inputs l rest))
-    (parts-front (window_text options inputs l) (zeros (BLOCK - WINDOW) ++ rest) (statement_place options inputs l m) header (parts-window options inputs l m header fits is))
+    (parts-front (window_text options inputs l) (second_half options inputs l ++ rest) (statement_place options inputs l m) header (parts-window options inputs l m header fits is))
 
 -- it ends in the window
 pub place-within : (options : Options) (inputs : List Taken) (l : Positions) (m : Machine) (header : List ℕ) → Fits options inputs l → header_for m (placed_inputs inputs l) ≡ Some header

@@ -1,5 +1,5 @@
 -- The block of a linked file, its first 16384 bytes: a shell script that holds the PE headers and the program header tables as the
--- body of a here-document, and an empty second half.
+-- body of a here-document, and a second half for the Mach-O header.
 use Rattle.std.specs.Prelude.{ℕ, ◌-◌, ◌/◌, if◌then◌else◌, List, ◌++◌, length, replicate, codes}
 use Rattle.std.specs.List.{flat_map}
 use Rattle.ap_fields.specs.declared.sizes.TheConstants.{BLOCK, WINDOW}
@@ -10,6 +10,7 @@ use Rattle.ap_check.specs.Options.{for_windows}
 use Rattle.ap_check.specs.Inputs.{Taken}
 use Rattle.ap_layout.specs.Positions.{Positions, PlacedInput, placed_inputs}
 use Rattle.ap_pe.specs.Linked.{headers_place, pe_text}
+use Rattle.ap_mach.specs.Linked.{mach_text}
 use Rattle.ap_script.specs.Delimiter.{delimiter, delimiter_number}
 use Rattle.ap_script.specs.Tables.{table_text}
 use Rattle.ap_script.specs.Script.{script_of, header_for}
@@ -60,7 +61,11 @@ abbrev pub ending_of : Options → List Taken → Positions → List ℕ
 ending_of options inputs l =
     closing (delimiter_number (body_of options inputs l)) ++ (script_for options inputs l ++ spaces (WINDOW - length (shell_text options inputs l)))
 
--- the first half ends in spaces, and the second half is for a header that other systems read
+-- the second half: the Mach-O header, where there is one, and zeros
+unfoldable pub second_half : Options → List Taken → Positions → List ℕ
+second_half options inputs l = mach_text options inputs l ++ zeros (BLOCK - WINDOW - length (mach_text options inputs l))
+
+-- the first half ends in spaces
 unfoldable pub block_of : Options → List Taken → Positions → List ℕ
 block_of options inputs l =
-    shell_text options inputs l ++ (spaces (WINDOW - length (shell_text options inputs l)) ++ zeros (BLOCK - WINDOW))
+    shell_text options inputs l ++ (spaces (WINDOW - length (shell_text options inputs l)) ++ second_half options inputs l)

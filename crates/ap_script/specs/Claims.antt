@@ -10,6 +10,7 @@ use Rattle.ap_check.specs.declared.options.Options.{Options}
 use Rattle.ap_check.specs.Inputs.{Taken}
 use Rattle.ap_layout.specs.Positions.{Positions, PlacedInput, placed_inputs, Fits}
 use Rattle.ap_pe.specs.Linked.{windows_claims}
+use Rattle.ap_mach.specs.Linked.{mac_claims}
 use Rattle.ap_script.specs.Tables.{table_text}
 use Rattle.ap_script.specs.Script.{header_for}
 use Rattle.ap_script.specs.Delimiter.{delimiter_number}
@@ -44,7 +45,7 @@ abbrev pub script_claims : Options → List Taken → Positions → List Claim
 script_claims options inputs l = ape_claims options inputs l ++ shell_claims options inputs l
 
 abbrev pub block_claims : Options → List Taken → Positions → List Claim
-block_claims options inputs l = windows_claims options inputs l ++ (table_claims (placed_inputs inputs l) ++ script_claims options inputs l)
+block_claims options inputs l = windows_claims options inputs l ++ (table_claims (placed_inputs inputs l) ++ (mac_claims options inputs l ++ script_claims options inputs l))
 
 -- the block is the file of its claims
 abbrev pub BlockIsClaimed : Type 0

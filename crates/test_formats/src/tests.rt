@@ -5,6 +5,7 @@ mod disk;
 mod elf;
 mod fields;
 mod imports;
+mod mach;
 mod memory;
 mod octal;
 mod pe;

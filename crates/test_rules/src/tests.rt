@@ -5,6 +5,7 @@ ghost use Rattle.ap_files.specs.Machine.{no_faults, untold_files};
 mod blocks;
 mod imports;
 mod inputs;
+mod mac;
 mod positions;
 
 use ap_check::{CheckEnd, Input, Options, Systems, check_input_in};

@@ -1,0 +1,3 @@
+pub mod MachPlans
+pub mod Steps
+pub mod Laws
