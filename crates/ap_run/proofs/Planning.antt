@@ -33,6 +33,7 @@ plans-unmeasured old new format name (Unread (fault.Wide total)) h = absurd h
 plans-unmeasured old new format name (Unread (fault.Elf f)) h = absurd h
 plans-unmeasured old new format name (Unread (fault.Ape f)) h = absurd h
 plans-unmeasured old new format name (Unread (fault.Pe f)) h = absurd h
+plans-unmeasured old new format name (Unread (fault.Mach f)) h = absurd h
 plans-unmeasured old new format name (Unread (fault.Walk f)) h = absurd h
 plans-unmeasured old new format name (Unread (fault.Shell at)) h = absurd h
 plans-unmeasured old new format name ReadFault h = h

@@ -25,6 +25,7 @@ whole-unmeasured old new P name (Unread (fault.Wide total)) h = absurd h
 whole-unmeasured old new P name (Unread (fault.Elf f)) h = absurd h
 whole-unmeasured old new P name (Unread (fault.Ape f)) h = absurd h
 whole-unmeasured old new P name (Unread (fault.Pe f)) h = absurd h
+whole-unmeasured old new P name (Unread (fault.Mach f)) h = absurd h
 whole-unmeasured old new P name (Unread (fault.Walk f)) h = absurd h
 whole-unmeasured old new P name (Unread (fault.Shell at)) h = absurd h
 whole-unmeasured old new P name ReadFault h = h

@@ -19,16 +19,20 @@ use Rattle.ap_elfmap.specs.Laws.{cells-by, page-granule}
 use Rattle.ap_loader.specs.declared.fault.ApeFault.{ApeFault}
 use Rattle.ap_loader.specs.ApeReading.{ape_reading, ape_plan}
 use Rattle.ap_loader.specs.Laws.{cells-ape}
+use Rattle.ap_mach.specs.declared.fault.MachFault.{MachFault}
+use Rattle.ap_mach.specs.MachReading.{mach_reading}
+use Rattle.ap_machmap.specs.MachPlans.{mach_plan}
+use Rattle.ap_machmap.specs.Laws.{cells-mach}
 use Rattle.ap_pe.specs.declared.fault.PeFault.{PeFault}
 use Rattle.ap_pe.specs.PeReading.{pe_reading}
 use Rattle.ap_pemap.specs.PePlans.{pe_plan}
 use Rattle.ap_pemap.specs.Laws.{cells-pe}
 use Rattle.ap_run.specs.declared.end.ReadingFault.TheVariants as fault
 use Rattle.ap_run.specs.declared.format.Form.{Form}
-use Rattle.ap_run.specs.declared.format.Form.TheVariants.{Ape, Elf, Pe}
+use Rattle.ap_run.specs.declared.format.Form.TheVariants.{Ape, Elf, Mach, Pe}
 use Rattle.ap_run.specs.declared.format.Format.{Format}
 use Rattle.ap_run.specs.declared.options.Options.{Options}
-use Rattle.ap_run.specs.Formats.{has_page, by_ape, by_elf, by_pe, plan_in, plan_by_form, reading_in, reading_by_form}
+use Rattle.ap_run.specs.Formats.{has_page, by_ape, by_elf, by_mach, by_pe, plan_in, plan_by_form, reading_in, reading_by_form}
 use Rattle.ap_run.specs.Options.{View, Given, no_options, form_of, imports_fit, format_with, format_of, dump_fits, view_of, given_in, view_in}
 
 by_ape-plan : (file : List ℕ) (p : Result Mapping ApeFault) (x : Result MemoryImage ApeFault) → IsPlanOf p file x → IsPlanOf (by_ape p) file (by_ape x)
@@ -49,6 +53,12 @@ by_pe-plan file (Err found) (Err refused) h = ap (λ (f : PeFault). fault.Pe f) 
 by_pe-plan file (Ok m) (Err refused) h = absurd h
 by_pe-plan file (Err found) (Ok image) h = absurd h
 
+by_mach-plan : (file : List ℕ) (p : Result Mapping MachFault) (x : Result MemoryImage MachFault) → IsPlanOf p file x → IsPlanOf (by_mach p) file (by_mach x)
+by_mach-plan file (Ok m) (Ok image) h = h
+by_mach-plan file (Err found) (Err refused) h = ap (λ (f : MachFault). fault.Mach f) h
+by_mach-plan file (Ok m) (Err refused) h = absurd h
+by_mach-plan file (Err found) (Ok image) h = absurd h
+
 form-cells : (form : Form) (machine : Machine) (page : ℕ) (file : List ℕ) → IsPage machine page → IsPlanOf (plan_by_form form machine page file) file (reading_by_form form machine page file)
 form-cells Ape machine page file is =
     by_ape-plan file (ape_plan (number_of machine) page file) (ape_reading (number_of machine) page file) (cells-ape (number_of machine) page file (page-granule machine page is))
@@ -56,6 +66,7 @@ form-cells Elf machine page file is =
     by_elf-plan file (elf_plan (number_of machine) page file) (elf_reading (number_of machine) page file)
     (cells-by (number_of machine) page (header_of file) (entries_of file) file (page-granule machine page is))
 form-cells Pe machine page file is = by_pe-plan file (pe_plan file) (pe_reading file) (cells-pe file)
+form-cells Mach machine page file is = by_mach-plan file (mach_plan file) (mach_reading file) (cells-mach file)
 
 -- ---- the words' format has a page of its machine
 

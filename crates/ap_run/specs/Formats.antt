@@ -10,13 +10,16 @@ use Rattle.ap_image.specs.Plans.{Mapping}
 use Rattle.ap_elf.specs.ElfReading.{elf_reading}
 use Rattle.ap_elfmap.specs.ElfPlans.{elf_plan}
 use Rattle.ap_loader.specs.ApeReading.{ape_reading, ape_plan}
+use Rattle.ap_mach.specs.declared.fault.MachFault.{MachFault}
+use Rattle.ap_mach.specs.MachReading.{mach_reading}
+use Rattle.ap_machmap.specs.MachPlans.{mach_plan}
 use Rattle.ap_pe.specs.declared.fault.PeFault.{PeFault}
 use Rattle.ap_pe.specs.PeReading.{pe_reading}
 use Rattle.ap_pemap.specs.PePlans.{pe_plan}
 use Rattle.ap_run.specs.declared.end.ReadingFault.{ReadingFault}
 use Rattle.ap_run.specs.declared.end.ReadingFault.TheVariants as fault
 use Rattle.ap_run.specs.declared.format.Form.{Form}
-use Rattle.ap_run.specs.declared.format.Form.TheVariants.{Ape, Elf, Pe}
+use Rattle.ap_run.specs.declared.format.Form.TheVariants.{Ape, Elf, Mach, Pe}
 use Rattle.ap_run.specs.declared.format.Format.{Format}
 use Rattle.ap_run.specs.PlanTexts.{plan_text}
 use Rattle.ap_image.specs.Imports.{imports_of}
@@ -43,6 +46,10 @@ abbrev pub by_pe : {T : Type 0} → Result T PeFault → Result T ReadingFault
 by_pe (Ok answer) = Ok answer
 by_pe (Err f) = Err (fault.Pe f)
 
+abbrev pub by_mach : {T : Type 0} → Result T MachFault → Result T ReadingFault
+by_mach (Ok answer) = Ok answer
+by_mach (Err f) = Err (fault.Mach f)
+
 abbrev pub ape_plan_in : Machine → ℕ → List ℕ → Result Mapping ReadingFault
 ape_plan_in machine page file = by_ape (ape_plan (number_of machine) page file)
 
@@ -52,10 +59,14 @@ elf_plan_in machine page file = by_elf (elf_plan (number_of machine) page file)
 abbrev pub pe_plan_in : List ℕ → Result Mapping ReadingFault
 pe_plan_in file = by_pe (pe_plan file)
 
+abbrev pub mach_plan_in : List ℕ → Result Mapping ReadingFault
+mach_plan_in file = by_mach (mach_plan file)
+
 abbrev pub plan_by_form : Form → Machine → ℕ → List ℕ → Result Mapping ReadingFault
 plan_by_form Ape machine page file = ape_plan_in machine page file
 plan_by_form Elf machine page file = elf_plan_in machine page file
 plan_by_form Pe machine page file = pe_plan_in file
+plan_by_form Mach machine page file = mach_plan_in file
 
 -- the plan of a file by a format, or the refusal
 unfoldable pub plan_in : Format → List ℕ → Result Mapping ReadingFault
@@ -65,6 +76,7 @@ abbrev pub reading_by_form : Form → Machine → ℕ → List ℕ → Result Me
 reading_by_form Ape machine page file = by_ape (ape_reading (number_of machine) page file)
 reading_by_form Elf machine page file = by_elf (elf_reading (number_of machine) page file)
 reading_by_form Pe machine page file = by_pe (pe_reading file)
+reading_by_form Mach machine page file = by_mach (mach_reading file)
 
 -- what a file puts into memory by a format's definition, address by address, or the refusal
 unfoldable pub reading_in : Format → List ℕ → Result MemoryImage ReadingFault

@@ -8,11 +8,14 @@ use Rattle.ap_loader.specs.declared.fault.ApeFault.{ApeFault}
 use Rattle.ap_loader.specs.declared.fault.ApeFault.TheVariants as ape
 use Rattle.ap_image.specs.declared.import_step.WalkCause.{WalkCause}
 use Rattle.ap_image.specs.declared.import_step.WalkCause.TheVariants as walk
+use Rattle.ap_mach.specs.declared.fault.MachCause.{MachCause}
+use Rattle.ap_mach.specs.declared.fault.MachCause.TheVariants as mach
+use Rattle.ap_mach.specs.declared.fault.MachFault.{MachFault}
 use Rattle.ap_pe.specs.declared.fault.PeCause.{PeCause}
 use Rattle.ap_pe.specs.declared.fault.PeCause.TheVariants as pe
 use Rattle.ap_pe.specs.declared.fault.PeFault.{PeFault}
 use Rattle.ap_run.specs.declared.end.ReadingFault.{ReadingFault}
-use Rattle.ap_run.specs.declared.end.ReadingFault.TheVariants.{Large, Wide, Elf, Ape, Pe, Walk, Shell}
+use Rattle.ap_run.specs.declared.end.ReadingFault.TheVariants.{Large, Wide, Elf, Ape, Pe, Mach, Walk, Shell}
 use Rattle.ap_run.specs.declared.end.Cause.{Cause}
 use Rattle.ap_run.specs.declared.end.Cause.TheVariants.{Done, Refused, Unread, Usage, ReadFault, WriteFault, OutFault, NoMemory}
 
@@ -79,6 +82,28 @@ pe_cause_name pe.Entry = codes "Entry"
 abbrev pub pe_line : PeFault → List ℕ
 pe_line f = fault_line (codes "pe") (pe_cause_name f.cause) f.item f.value
 
+abbrev pub mach_cause_name : MachCause → List ℕ
+mach_cause_name mach.Short = codes "Short"
+mach_cause_name mach.Magic = codes "Magic"
+mach_cause_name mach.Cpu = codes "Cpu"
+mach_cause_name mach.FileType = codes "FileType"
+mach_cause_name mach.Count = codes "Count"
+mach_cause_name mach.CommandRange = codes "CommandRange"
+mach_cause_name mach.CommandSize = codes "CommandSize"
+mach_cause_name mach.Dynamic = codes "Dynamic"
+mach_cause_name mach.SegmentSize = codes "SegmentSize"
+mach_cause_name mach.Aligned = codes "Aligned"
+mach_cause_name mach.Sizes = codes "Sizes"
+mach_cause_name mach.Range = codes "Range"
+mach_cause_name mach.Top = codes "Top"
+mach_cause_name mach.Order = codes "Order"
+mach_cause_name mach.Many = codes "Many"
+mach_cause_name mach.Thread = codes "Thread"
+mach_cause_name mach.NoThread = codes "NoThread"
+
+abbrev pub mach_line : MachFault → List ℕ
+mach_line f = fault_line (codes "mach") (mach_cause_name f.cause) f.item f.value
+
 abbrev pub walk_cause_name : WalkCause → List ℕ
 walk_cause_name walk.NoCell = codes "NoCell"
 walk_cause_name walk.NoEnd = codes "NoEnd"
@@ -91,6 +116,7 @@ reading_line (Wide total) = fault_line (codes "image") (codes "Wide") 0 total
 reading_line (Elf f) = elf_line f
 reading_line (Ape f) = ape_line f
 reading_line (Pe f) = pe_line f
+reading_line (Mach f) = mach_line f
 reading_line (Walk f) = fault_line (codes "import") (walk_cause_name f.cause) 0 f.at
 reading_line (Shell at) = fault_line (codes "shell") (codes "Outside") 0 at
 

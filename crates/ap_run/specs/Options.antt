@@ -7,7 +7,7 @@ use Rattle.ap_elf.specs.declared.machine.Machine.{Machine}
 use Rattle.ap_elf.specs.declared.machine.Machine.TheVariants.{X64, A64}
 use Rattle.ap_elf.specs.Machines.{granule_of}
 use Rattle.ap_run.specs.declared.format.Form.{Form}
-use Rattle.ap_run.specs.declared.format.Form.TheVariants.{Ape, Elf, Pe}
+use Rattle.ap_run.specs.declared.format.Form.TheVariants.{Ape, Elf, Mach, Pe}
 use Rattle.ap_run.specs.declared.format.Format.{Format}
 use Rattle.ap_run.specs.declared.options.Options.{Options}
 use Rattle.ap_run.specs.Formats.{has_page}
@@ -36,7 +36,10 @@ abbrev pub page_named : List ℕ → Option ℕ
 page_named name = if bytes_eq name (codes "4096") then Some 4096 else (if bytes_eq name (codes "16384") then Some 16384 else None)
 
 abbrev pub form_named : List ℕ → Option Form
-form_named name = if bytes_eq name (codes "elf") then Some Elf else (if bytes_eq name (codes "pe") then Some Pe else None)
+form_named name =
+    if bytes_eq name (codes "elf") then Some Elf
+    else (if bytes_eq name (codes "pe") then Some Pe
+    else (if bytes_eq name (codes "mach") then Some Mach else None))
 
 -- an option is given once at most
 abbrev pub with_form : Options → List ℕ → Option Options
@@ -83,6 +86,7 @@ abbrev pub imports_fit : Form → Bool → Bool
 imports_fit Pe imports = true
 imports_fit Ape imports = not imports
 imports_fit Elf imports = not imports
+imports_fit Mach imports = not imports
 
 abbrev pub format_with : Form → Machine → ℕ → Bool → Option Format
 format_with form machine page imports =

@@ -9,13 +9,18 @@ use Rattle.ap_check.specs.declared.options.Systems.{Systems}
 abbrev pub names_of : List ℕ → List (List ℕ)
 names_of text = slice_split (λ c. c == 44) text
 
--- the system of a name; no other is built
+-- the system of a name
 abbrev pub system_named : List ℕ → Option Systems
 system_named name =
     if bytes_eq name (codes "linux") then Some (record { 0 = 1 })
     else (if bytes_eq name (codes "freebsd") then Some (record { 0 = 2 })
     else (if bytes_eq name (codes "netbsd") then Some (record { 0 = 4 })
-    else (if bytes_eq name (codes "windows") then Some (record { 0 = 8 }) else None)))
+    else (if bytes_eq name (codes "windows") then Some (record { 0 = 8 })
+    else (if bytes_eq name (codes "mac") then Some (record { 0 = 16 }) else None))))
+
+-- where none is named: all but Windows
+abbrev pub usual_systems : Systems
+usual_systems = record { 0 = 23 }
 
 -- the systems of either
 abbrev pub both_systems : Systems → Systems → Systems

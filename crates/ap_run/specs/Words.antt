@@ -1,6 +1,6 @@
--- The words of a link, `link --systems LIST [--debug-magic] -o OUT IN [IN]`: the options, each once and with its value behind
--- it, a flag, and one or two inputs, which stand together. Options, flag and inputs stand in any order.
-use Rattle.std.specs.Prelude.{ℕ, nat_lt, nat_eq, false, List, [], ◌∷◌, length, map, if◌then◌else◌, ◌&&◌, ◌||◌, not, is_some, Bool, true, codes, Option, Some, None, String}
+-- The words of a link, `link -o OUT [--systems LIST] [--debug-magic] IN [IN]`: the options, each once at most and with its value
+-- behind it, a flag, and one or two inputs, which stand together. Options, flag and inputs stand in any order.
+use Rattle.std.specs.Prelude.{ℕ, unwrap_or, nat_lt, nat_eq, false, List, [], ◌∷◌, length, map, if◌then◌else◌, ◌&&◌, ◌||◌, not, is_some, Bool, true, codes, Option, Some, None, String}
 use Rattle.std.specs.Option.{option_map, option_and_then, option_copied}
 use Rattle.std.specs.List.{starts_with}
 use Rattle.std.specs.Str.{bytes_eq}
@@ -11,7 +11,7 @@ use Rattle.ap_check.specs.declared.options.Options.{Options}
 use Rattle.ap_check.specs.Options.{for_windows}
 use Rattle.ap_run.specs.declared.link.Link.{Link}
 use Rattle.ap_run.specs.declared.link.Parts.{Parts}
-use Rattle.ap_run.specs.Systems.{systems_in}
+use Rattle.ap_run.specs.Systems.{systems_in, usual_systems}
 
 -- what a link is to do: the systems that are chosen, the file to make, and one or two inputs
 pub record LinkNames : Type 0 where
@@ -91,9 +91,13 @@ names_with options out first second =
     if is_magic options && (not (bytes_eq out first) && is_other out second)
     then Some (record { systems = options.systems; debug = options.debug; out = out; first = first; second = second }) else None
 
+-- the options that were said, with the systems that are meant where none were
+abbrev pub said_options : LinkParts → Options
+said_options p = record { systems = unwrap_or p.systems usual_systems; debug = p.debug }
+
 -- all that has to be said
 abbrev pub names_of : LinkParts → Option LinkNames
-names_of p = option_and_then (λ systems. option_and_then (λ out. option_and_then (λ first. names_with (record { systems = systems; debug = p.debug }) out first p.second) p.first) p.out) p.systems
+names_of p = option_and_then (λ out. option_and_then (λ first. names_with (said_options p) out first p.second) p.first) p.out
 
 -- the link that a command's words name
 abbrev pub names_in : List (List ℕ) → Option LinkNames

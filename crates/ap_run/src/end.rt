@@ -10,6 +10,7 @@ use ap_elf::ElfFault;
 use ap_files::{Sink, print};
 use ap_image::WalkFault;
 use ap_loader::ApeFault;
+use ap_machmap::MachFault;
 use ap_pemap::PeFault;
 
 /// Why a file isn't taken by a command that reads one.
@@ -31,6 +32,8 @@ pub enum ReadingFault {
     Ape(ApeFault),
     /// It has no PE reading.
     Pe(PeFault),
+    /// It has no Mach-O reading.
+    Mach(MachFault),
     /// Its import directory doesn't stand.
     Walk(WalkFault),
     /// Its text isn't in the shell grammar.

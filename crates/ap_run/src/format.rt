@@ -12,6 +12,7 @@ use ap_elfmap::ElfReading;
 use ap_files::{Failed, Files};
 use ap_image::Plan;
 use ap_loader::ApeReading;
+use ap_machmap::MachReading;
 use ap_pemap::PeReading;
 
 /// A form of program files.
@@ -23,6 +24,8 @@ pub enum Form {
     Elf,
     /// PE32+ for x86-64, whose plan doesn't depend on machine and page.
     Pe,
+    /// Mach-O for x86-64, whose plan doesn't depend on machine and page.
+    Mach,
 }
 
 /// A form, for a machine and one of its page sizes.
@@ -58,6 +61,7 @@ impl Format {
             Form::Ape => ape_plan(self.machine, self.page, files, name, size),
             Form::Elf => elf_plan(self.machine, self.page, files, name, size),
             Form::Pe => pe_plan(files, name, size),
+            Form::Mach => mach_plan(files, name, size),
         }
     }
 }
@@ -114,6 +118,22 @@ fn pe_plan<F: Files>(
 {
     match PeReading.read_in(files, name, size) {
         Ok(plan) => Ok(plan.map_err(ReadingFault::Pe)),
+        Err(failed) => Err(failed),
+    }
+}
+
+fn mach_plan<F: Files>(
+    files: &mut F,
+    name: &str,
+    size: u64,
+) -> Result<Result<Plan, ReadingFault>, Failed>
+    requires { HasSize (F.state files.old).kept name.now size }
+    ensures read { Reads (F.state files.old) (F.state files.new) name.now
+        (λ b plan. plan ≡ spec.mach_plan_in b) result }
+    ensures backed { IfOk result (λ plan. IfOk plan (λ p. AreBacked p.regions size)) }
+{
+    match MachReading.read_in(files, name, size) {
+        Ok(plan) => Ok(plan.map_err(ReadingFault::Mach)),
         Err(failed) => Err(failed),
     }
 }

@@ -2,13 +2,14 @@
 ghost use Rattle.std.specs.Prelude.{◌≡◌, ◌+◌, ◌≤◌, ◌++◌, length, decimal, option_map};
 ghost use Rattle.arrayvec.specs.ArrayVec.{array_vec_len};
 ghost use Rattle.ap_run.specs.Lines as spec;
-ghost use Rattle.ap_run.specs.Lines.{line_of, fault_line, cause_name, pe_cause_name, walk_cause_name};
+ghost use Rattle.ap_run.specs.Lines.{line_of, fault_line, cause_name, mach_cause_name, pe_cause_name, walk_cause_name};
 
 use crate::end::{Cause, ReadingFault};
 use ap_check::Fault;
 use ap_elf::{ElfCause, ElfFault};
 use ap_image::WalkCause;
 use ap_loader::ApeFault;
+use ap_machmap::{MachCause, MachFault};
 use ap_pemap::{PeCause, PeFault};
 use arrayvec::ArrayVec;
 use itoa::Buffer;
@@ -66,6 +67,7 @@ fn reading_line(fault: &ReadingFault) -> Line
         ReadingFault::Elf(fault) => elf_line(fault),
         ReadingFault::Ape(fault) => ape_line(fault),
         ReadingFault::Pe(fault) => pe_line(fault),
+        ReadingFault::Mach(fault) => mach_line(fault),
         ReadingFault::Walk(fault) => form_line(b"import", walk_name(fault.cause), 0, fault.at),
         ReadingFault::Shell { at } => form_line(b"shell", b"Outside", 0, *at),
     }
@@ -91,6 +93,12 @@ fn pe_line(fault: &PeFault) -> Line
     ensures { result.items ≡ spec.pe_line fault.now }
 {
     form_line(b"pe", pe_name(fault.cause), fault.item, fault.value)
+}
+
+fn mach_line(fault: &MachFault) -> Line
+    ensures { result.items ≡ spec.mach_line fault.now }
+{
+    form_line(b"mach", mach_name(fault.cause), fault.item, fault.value)
 }
 
 // The line of a form, the name of a cause, an item and a value.
@@ -162,6 +170,32 @@ fn pe_name(cause: PeCause) -> &'static [u8]
         PeCause::ImageSize => b"ImageSize",
         PeCause::Top => b"Top",
         PeCause::Entry => b"Entry",
+    }
+}
+
+// The name of a cause of the Mach-O reading.
+fn mach_name(cause: MachCause) -> &'static [u8]
+    ensures name { result.now ≡ mach_cause_name cause }
+    ensures short { length result.now ≤ 20 }
+{
+    match cause {
+        MachCause::Short => b"Short",
+        MachCause::Magic => b"Magic",
+        MachCause::Cpu => b"Cpu",
+        MachCause::FileType => b"FileType",
+        MachCause::Count => b"Count",
+        MachCause::CommandRange => b"CommandRange",
+        MachCause::CommandSize => b"CommandSize",
+        MachCause::Dynamic => b"Dynamic",
+        MachCause::SegmentSize => b"SegmentSize",
+        MachCause::Aligned => b"Aligned",
+        MachCause::Sizes => b"Sizes",
+        MachCause::Range => b"Range",
+        MachCause::Top => b"Top",
+        MachCause::Order => b"Order",
+        MachCause::Many => b"Many",
+        MachCause::Thread => b"Thread",
+        MachCause::NoThread => b"NoThread",
     }
 }
 

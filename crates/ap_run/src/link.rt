@@ -1,6 +1,4 @@
 // What the words of a link name.
-ghost use Rattle.std.specs.Prelude.{◌<◌};
-ghost use Rattle.std.specs.Option.{ForSome};
 ghost use Rattle.ap_check.specs.Options.{AreTaken};
 
 use ap_check::Systems;
@@ -29,5 +27,4 @@ pub struct Parts<'a> {
     pub out: Option<&'a str>,
     pub first: Option<&'a str>,
     pub second: Option<&'a str>,
-    pub ghost built: { ForSome systems (λ s. s.0 < 16) },
 }

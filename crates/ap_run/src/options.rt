@@ -38,7 +38,8 @@ struct Given<'a> {
 }
 
 /// The view in the words `load [--machine M] [--page N] [--dump OUT] FILE` or `map --as FORM [--machine M] [--page N]
-/// [--imports] FILE`, whose options stand in any order; any other words are none. FORM is `elf` or `pe`, and `--imports` is for `pe` alone. M is `x86-64`, which it is where it isn't given, or
+/// [--imports] FILE`, whose options stand in any order; any other words are none. FORM is `elf`, `pe` or `mach`, and `--imports` is for `pe`
+/// alone. M is `x86-64`, which it is where it isn't given, or
 /// `aarch64`. N is 4096, or 16384 for AArch64; where it isn't given, it is the greatest of the machine. OUT isn't FILE.
 pub fn read_view(words: &[String]) -> Option<View<'_>>
     ensures page { IfSome result (λ v. IsPage v.format.machine v.format.page) }
@@ -170,7 +171,7 @@ fn imports_fit(form: Form, imports: bool) -> bool
 {
     match form {
         Form::Pe => true,
-        Form::Ape | Form::Elf => !imports,
+        Form::Ape | Form::Elf | Form::Mach => !imports,
     }
 }
 
@@ -236,6 +237,8 @@ fn form_named(name: &str) -> Option<Form>
         Some(Form::Elf)
     } else if name == "pe" {
         Some(Form::Pe)
+    } else if name == "mach" {
+        Some(Form::Mach)
     } else {
         None
     }

@@ -1,16 +1,15 @@
 // The systems that a list of names chooses.
-ghost use Rattle.std.specs.Prelude.{◌≡◌, ◌<◌, IfSome};
+ghost use Rattle.std.specs.Prelude.{◌≡◌};
 ghost use Rattle.ap_run.specs.Systems as spec;
 
 use ap_check::Systems;
 use bitflags::Flags;
 
-/// The systems of a list of names that are joined by commas, each of them `linux`, `freebsd`, `netbsd` or `windows`. There is one name
-/// at least, and a name may stand more than once.
+/// The systems of a list of names that are joined by commas, each of them `linux`, `freebsd`, `netbsd`, `windows` or `mac`. There
+/// is one name at least, and a name may stand more than once.
 #[tactic(auto, unfolding(crate::specs::Systems::systems_in))]
 pub fn systems_in(list: &str) -> Option<Systems>
-    ensures systems { result ≡ spec.systems_in list.now }
-    ensures built { IfSome result (λ s. s.0 < 16) }
+    ensures { result ≡ spec.systems_in list.now }
 {
     let Some((name, rest)) = list.split_once(',') else {
         return system_named(list);
@@ -21,8 +20,7 @@ pub fn systems_in(list: &str) -> Option<Systems>
 }
 
 fn system_named(name: &str) -> Option<Systems>
-    ensures system { result ≡ spec.system_named name.now }
-    ensures built { IfSome result (λ s. s.0 < 16) }
+    ensures { result ≡ spec.system_named name.now }
 {
     if name == "linux" {
         Some(Systems::LINUX)
@@ -32,7 +30,19 @@ fn system_named(name: &str) -> Option<Systems>
         Some(Systems::NETBSD)
     } else if name == "windows" {
         Some(Systems::WINDOWS)
+    } else if name == "mac" {
+        Some(Systems::MAC)
     } else {
         None
     }
+}
+
+/// The systems of a link that names none: all but Windows.
+pub fn usual_systems() -> Systems
+    ensures { result ≡ spec.usual_systems }
+{
+    Systems::LINUX
+        .union(Systems::FREEBSD)
+        .union(Systems::NETBSD)
+        .union(Systems::MAC)
 }

@@ -1,17 +1,18 @@
 // The words of a link: its options, each with its value behind it, and its inputs.
-ghost use Rattle.std.specs.Prelude.{◌≡◌, ◌≢◌, ◌<◌, IfSome};
+ghost use Rattle.std.specs.Prelude.{◌≡◌, ◌≢◌, IfSome};
 ghost use Rattle.std.specs.Option.{option_map, option_copied};
 ghost use Rattle.ap_run.specs.Words as spec;
 ghost use Rattle.ap_run.specs.Words.{link_names, link_parts, names_in, names_of, names_with, parts_in, texts_of};
 
 use crate::link::{Link, Parts};
-use crate::systems::systems_in;
+use crate::systems::{systems_in, usual_systems};
 use ap_check::{Options, Systems};
 use bitflags::Flags;
 
-/// The link in the words `link --systems LIST [--debug-magic] -o OUT IN [IN]`; any other words are none. LIST is names joined by
-/// commas, each of them `linux`, `freebsd`, `netbsd` or `windows`; with the last there is no `--debug-magic`. Options, flag and
-/// inputs stand in any order, but two inputs stand together. OUT is none of the inputs.
+/// The link in the words `link -o OUT [--systems LIST] [--debug-magic] IN [IN]`; any other words are none. LIST is names joined
+/// by commas, each of them `linux`, `freebsd`, `netbsd`, `windows` or `mac`; without it, all but `windows` are meant, and with
+/// `windows` there is no `--debug-magic`. Options, flag and inputs stand in any order, but two inputs stand together. OUT is none
+/// of the inputs.
 pub fn read_link(words: &[String]) -> Option<Link<'_>>
     ensures first { IfSome result (λ l. l.first.now ≢ l.out.now) }
     ensures second { IfSome result (λ l. IfSome (option_copied l.second) (λ n. n ≢ l.out.now)) }
@@ -41,11 +42,10 @@ fn link_of(parts: Parts<'_>) -> Option<Link<'_>>
     ensures second { IfSome result (λ l. IfSome (option_copied l.second) (λ n. n ≢ l.out.now)) }
     ensures names { option_map link_names result ≡ names_of (link_parts parts.entry) }
 {
-    let systems = parts.systems?;
     let out = parts.out?;
     let first = parts.first?;
     let options = Options {
-        systems,
+        systems: parts.systems.unwrap_or(usual_systems()),
         debug: parts.debug,
     };
     link_with(options, out, first, parts.second)
@@ -57,7 +57,6 @@ fn link_with<'a>(
     first: &'a str,
     second: Option<&'a str>,
 ) -> Option<Link<'a>>
-    requires { options.systems.0 < 16 }
     ensures first { IfSome result (λ l. l.first.now ≢ l.out.now) }
     ensures second { IfSome result (λ l. IfSome (option_copied l.second) (λ n. n ≢ l.out.now)) }
     ensures names { option_map link_names result
