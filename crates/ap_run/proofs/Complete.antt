@@ -14,6 +14,7 @@ use Rattle.ap_run.specs.Options.{View, view_in}
 use Rattle.ap_run.specs.ScriptWords.{ScriptRun, script_in}
 use Rattle.ap_run.specs.Scripted.{Scripted}
 use Rattle.ap_run.specs.Shows.{Ends, ShowsBy}
+use Rattle.ap_run.specs.Whole.{Telling}
 use Rattle.ap_run.specs.Dumps.{DumpEnds, dumped_in}
 use Rattle.ap_run.specs.declared.format.Format.{Format}
 use Rattle.ap_files.specs.Reads as reads
@@ -141,10 +142,10 @@ unread_same : {T : Type 0} {f g : ReadingFault} {r : Result T ReadingFault} → 
 unread_same e h = cc
 
 -- a file is shown in one way at most
-abbrev IsOne : (List ℕ → Result (List ℕ) ReadingFault → Type 0) → List ℕ → Type 0
+abbrev IsOne : Telling → List ℕ → Type 0
 IsOne P b = (x y : Result (List ℕ) ReadingFault) → P b x → P b y → x ≡ y
 
-shown_by : (old new : FileState) (before after : SinkState) (P : List ℕ → Result (List ℕ) ReadingFault → Type 0) (name : List ℕ) (cause : Cause) (m : FileMap) (b : List ℕ) → IsOne P b
+shown_by : (old new : FileState) (before after : SinkState) (P : Telling) (name : List ℕ) (cause : Cause) (m : FileMap) (b : List ℕ) → IsOne P b
     → Ends old new before after P name cause → Stands old.read_faults new.read_faults → old.kept ≡ Some m → map.get m name ≡ Some b → AnswersBy before after cause (P b)
 shown_by old new before after P name Done m b one h r k g =
     let shown = told_of old.kept name m b h.1.2 k g in (λ f e. absurd (ok_err refl (one (Ok h.1.0) (Err f) shown e)), λ t e s. inl refl)

@@ -14,7 +14,7 @@ use Rattle.ap_run.specs.declared.end.Cause.TheVariants.{Done, Refused, Unread, U
 use Rattle.ap_run.specs.declared.format.Format.{Format}
 use Rattle.ap_run.specs.declared.planned.Planned.{Planned}
 use Rattle.ap_run.specs.Formats.{plan_in, listing, text_of, text_in}
-use Rattle.ap_run.specs.Whole.{Sized}
+use Rattle.ap_run.specs.Whole.{Sized, Telling}
 use Rattle.ap_run.specs.FilePlans.{sized_plan_in, IsPlanned, Plans}
 use Rattle.ap_run.specs.Shows.{IsShown, ShowsBy, Lists, Ends, Printed, Answers, Makes}
 
@@ -78,7 +78,7 @@ answers-made old new format name planned (Err ReadFault) plain h m = absurd m
 answers-made old new format name planned (Err WriteFault) plain h m = absurd m
 answers-made old new format name planned (Err OutFault) plain h m = absurd m
 
-pub ends-printed : (old new : FileState) (before after : SinkState) (P : List ℕ → Result (List ℕ) ReadingFault → Type 0) (name text : List ℕ) (cause : Cause) → (new ≡ old) × IsShown old P name (Ok text)
+pub ends-printed : (old new : FileState) (before after : SinkState) (P : Telling) (name text : List ℕ) (cause : Cause) → (new ≡ old) × IsShown old P name (Ok text)
     → Printed before after text cause → Ends old new before after P name cause
 ends-printed old new before after P name text Done h p = (h.0, (text, p, h.1))
 ends-printed old new before after P name text OutFault h p = (h.0, (text, p, h.1))
@@ -89,7 +89,7 @@ ends-printed old new before after P name text ReadFault h p = absurd p
 ends-printed old new before after P name text WriteFault h p = absurd p
 ends-printed old new before after P name text NoMemory h p = absurd p
 
-pub ends-bare : (old new : FileState) (sink : SinkState) (P : List ℕ → Result (List ℕ) ReadingFault → Type 0) (name : List ℕ) (cause : Cause) → Answers old new P name (Err cause) → Ends old new sink sink P name cause
+pub ends-bare : (old new : FileState) (sink : SinkState) (P : Telling) (name : List ℕ) (cause : Cause) → Answers old new P name (Err cause) → Ends old new sink sink P name cause
 ends-bare old new sink P name (Unread f) h = (h.0, refl, h.1)
 ends-bare old new sink P name ReadFault h = (h, refl)
 ends-bare old new sink P name NoMemory h = (h, refl)

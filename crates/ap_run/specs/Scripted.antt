@@ -9,11 +9,10 @@ use Rattle.ap_shell.specs.declared.types.Host.{Host}
 use Rattle.ap_shell.specs.declared.types.Outcome.{Outcome}
 use Rattle.ap_shell.specs.Runs.{Runs}
 use Rattle.ap_shparse.specs.declared.tree.ShellFault.{ShellFault}
-use Rattle.ap_run.specs.declared.end.ReadingFault.{ReadingFault}
 use Rattle.ap_run.specs.declared.end.ReadingFault.TheVariants as fault
 use Rattle.ap_run.specs.Outcomes.{outcome_text}
 use Rattle.ap_run.specs.ScriptWords.{ScriptRun}
-use Rattle.ap_run.specs.Whole.{Sized}
+use Rattle.ap_run.specs.Whole.{Sized, Telling}
 
 -- what the script sees: its file as `$0`, no arguments, no TMPDIR, the process number 1, and no utility that fails
 abbrev pub env_of : ScriptRun → Env
@@ -43,10 +42,10 @@ pub record HasOutcome (run : ScriptRun) (file text : List ℕ) : Type 0 where
   pub outcome : text ≡ outcome_text (shell_meaning (env_of run) items (host_of run.file file)).0
 
 -- the text of the outcome, or where the file isn't in the grammar
-abbrev pub RunsTo : ScriptRun → List ℕ → Result (List ℕ) ReadingFault → Type 0
+abbrev pub RunsTo : ScriptRun → Telling
 RunsTo run file (Ok text) = HasOutcome run file text
 RunsTo run file (Err f) = (at : ℕ) × (f ≡ fault.Shell at) × IsOutside run.nul file at
 
 -- the same of a file of any length
-abbrev pub Scripted : ScriptRun → List ℕ → Result (List ℕ) ReadingFault → Type 0
+abbrev pub Scripted : ScriptRun → Telling
 Scripted run = Sized (RunsTo run)

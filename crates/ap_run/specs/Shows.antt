@@ -1,4 +1,4 @@
--- How a command that shows a file ends. What it shows of the file's bytes, or its refusal, is a relation P.
+-- How a command that shows a file ends.
 use Rattle.std.specs.Prelude.{◌≡◌, ℕ, List, Vec, Result, Ok, Err}
 use Rattle.std.specs.declared.alloc.Global.{Global}
 use Rattle.ap_files.specs.Files.{FileState}
@@ -13,21 +13,22 @@ use Rattle.ap_run.specs.declared.format.Format.{Format}
 use Rattle.ap_files.specs.Prints.{Written, Broken}
 use Rattle.ap_run.specs.PlanTexts.{plan_text}
 use Rattle.ap_run.specs.Formats.{text_in, listing}
+use Rattle.ap_run.specs.Whole.{Telling}
 
 -- what a format shows of a file
-abbrev pub ShowsBy : Format → List ℕ → Result (List ℕ) ReadingFault → Type 0
+abbrev pub ShowsBy : Format → Telling
 ShowsBy format file shown = text_in format file ≡ shown
 
 -- and what the plan and the imports do
-abbrev pub Lists : List ℕ → Result (List ℕ) ReadingFault → Type 0
+abbrev pub Lists : Telling
 Lists file shown = listing file ≡ shown
 
 -- the file is there, where files are told, and this is the text that shows it, or the refusal
-abbrev pub IsShown : FileState → (List ℕ → Result (List ℕ) ReadingFault → Type 0) → List ℕ → Result (List ℕ) ReadingFault → Type 0
+abbrev pub IsShown : FileState → Telling → List ℕ → Result (List ℕ) ReadingFault → Type 0
 IsShown old P name shown = HasFile old.kept name (λ b. P b shown)
 
 -- How a command ends by its cause. Where it doesn't say otherwise, no file and no count changes, and nothing is printed.
-abbrev pub Ends : FileState → FileState → SinkState → SinkState → (List ℕ → Result (List ℕ) ReadingFault → Type 0) → List ℕ → Cause → Type 0
+abbrev pub Ends : FileState → FileState → SinkState → SinkState → Telling → List ℕ → Cause → Type 0
 Ends old new before after P name Done = (new ≡ old) × ((text : List ℕ) × Written before after text × IsShown old P name (Ok text))
 Ends old new before after P name (Unread fault) = (new ≡ old) × (after ≡ before) × IsShown old P name (Err fault)
 Ends old new before after P name ReadFault = reads.Unread old new name × (after ≡ before)
@@ -44,7 +45,7 @@ Printed before after text OutFault = Broken before after text
 Printed before after text _ = ⊥
 
 -- how the text of a file is made
-abbrev pub Answers : FileState → FileState → (List ℕ → Result (List ℕ) ReadingFault → Type 0) → List ℕ → Result (Vec ℕ Global) Cause → Type 0
+abbrev pub Answers : FileState → FileState → Telling → List ℕ → Result (Vec ℕ Global) Cause → Type 0
 Answers old new P name (Ok text) = (new ≡ old) × IsShown old P name (Ok text.items)
 Answers old new P name (Err (Unread fault)) = (new ≡ old) × IsShown old P name (Err fault)
 Answers old new P name (Err ReadFault) = reads.Unread old new name
