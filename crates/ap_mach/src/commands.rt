@@ -1,5 +1,5 @@
 // The command that stands at a place.
-ghost use Rattle.std.specs.Prelude.{◌≡◌, ◌+◌, ◌≤◌, ◌^◌, ◌<◌, length, IfSome};
+ghost use Rattle.std.specs.Prelude.{◌≡◌, ◌≤◌, length};
 ghost use Rattle.ap_mach.specs.MachReading.{is_whole};
 ghost use Rattle.ap_mach.specs.Stages.{command_result};
 

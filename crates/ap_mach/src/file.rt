@@ -1,6 +1,6 @@
 // The header and the commands of a file by its name: its first 32 bytes, and of each command the bytes of its fields, are read
 // alone.
-ghost use Rattle.std.specs.Prelude.{◌≡◌, ◌+◌, ◌≤◌, take, IfOk};
+ghost use Rattle.std.specs.Prelude.{◌≡◌, ◌≤◌, take, IfOk};
 ghost use Rattle.ap_files.specs.Reads.{HasSize, Reads};
 ghost use Rattle.ap_mach.specs.Format.{parts_at};
 ghost use Rattle.ap_mach.specs.Stages.{IsTaken, header_result};

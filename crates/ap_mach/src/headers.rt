@@ -1,5 +1,5 @@
 // The headers as bytes.
-ghost use Rattle.std.specs.Prelude.{◌≡◌, ◌+◌, ◌*◌, ◌<◌, ◌≤◌, ◌++◌, length};
+ghost use Rattle.std.specs.Prelude.{◌≡◌, ◌+◌, ◌*◌, ◌≤◌, ◌++◌, length};
 ghost use Rattle.ap_fields.specs.declared.sizes.TheConstants.{MOST_LOADS};
 ghost use Rattle.ap_mach.specs.declared.constants.TheConstants.{MOST_HEADERS, SEGMENT_SIZE};
 ghost use Rattle.ap_mach.specs.Segments as segments_spec;

@@ -1,7 +1,5 @@
 // What is asked of header and commands.
-ghost use Rattle.std.specs.Prelude.{◌≡◌, ◌+◌, ◌≤◌, ◌<◌, ◌==◌, ◌&&◌, ◌||◌, ◌∷◌, [], not, nat_le, OnOk, true};
-ghost use Rattle.ap_elf.specs.declared.constants.TheConstants.{ADDRESS_TOP};
-ghost use Rattle.ap_image.specs.declared.plan.TheConstants.{MOST_REGIONS};
+ghost use Rattle.std.specs.Prelude.{◌≡◌, ◌+◌, ◌≤◌, OnOk};
 ghost use Rattle.ap_mach.specs.MachReading as spec;
 ghost use Rattle.ap_mach.specs.MachReading.{Checks, header_rules, front_rules, segment_rules, thread_rules};
 ghost use Rattle.ap_mach.specs.Stages.{IsTaken};

@@ -2,7 +2,6 @@
 ghost use Rattle.std.specs.Prelude.{◌≡◌, ◌+◌, ◌<◌, ◌≤◌};
 ghost use Rattle.ap_elf.specs.declared.constants.TheConstants.{ADDRESS_TOP};
 ghost use Rattle.ap_mach.specs.Segments as spec;
-ghost use Rattle.ap_mach.specs.MachReading as reading;
 
 use crate::constants::{
     LOAD_NAME, SEGMENT_ALIGNMENT, VM_PROT_EXECUTE, VM_PROT_READ, VM_PROT_WRITE,

@@ -1,5 +1,5 @@
 // What the commands so far put into memory.
-ghost use Rattle.std.specs.Prelude.{◌≡◌, ◌++◌, ◌+◌, ◌≤◌, ◌<◌, [], None, length, IfOk, OnOk};
+ghost use Rattle.std.specs.Prelude.{◌≡◌, ◌++◌, ◌+◌, ◌≤◌, [], None, length, IfOk, OnOk};
 ghost use Rattle.ap_image.specs.Plans.{AreBacked};
 ghost use Rattle.ap_mach.specs.MachReading.{Checks, command_rules, kind_rules, segment_rules, low_behind};
 ghost use Rattle.ap_mach.specs.MachReading as reading;

@@ -50,102 +50,104 @@ const FIELDS: [Edit; 26] = [
 const NONE: Edit = (1, 0x4000, 0xcc);
 
 /// Files that are refused: how many of the bytes they have, what is changed, and the cause, the item and the value.
-const REFUSED: [(usize, [Edit; 2], MachCause, u16, u64); 34] = [
-    (0, [NONE, NONE], MachCause::Short, 0, 0),
-    (31, [NONE, NONE], MachCause::Short, 0, 31),
-    (32, [NONE, NONE], MachCause::CommandRange, 0, 328),
-    (359, [NONE, NONE], MachCause::CommandRange, 0, 328),
-    (SIZE, [(1, 0, 0xce), NONE], MachCause::Magic, 0, 0xfeed_face),
-    (SIZE, [(4, 4, 16777228), NONE], MachCause::Cpu, 0, 16777228),
-    (SIZE, [(4, 12, 6), NONE], MachCause::FileType, 0, 6),
-    (SIZE, [(4, 16, 1025), NONE], MachCause::Count, 0, 1025),
-    (SIZE, [(4, 16, 1024), NONE], MachCause::CommandSize, 4, 360),
-    (SIZE, [(4, 16, 4), NONE], MachCause::CommandSize, 4, 360),
+const REFUSED: [(usize, Edit, Edit, MachCause, u16, u64); 34] = [
+    (0, NONE, NONE, MachCause::Short, 0, 0),
+    (31, NONE, NONE, MachCause::Short, 0, 31),
+    (32, NONE, NONE, MachCause::CommandRange, 0, 328),
+    (359, NONE, NONE, MachCause::CommandRange, 0, 328),
+    (SIZE, (1, 0, 0xce), NONE, MachCause::Magic, 0, 0xfeed_face),
+    (SIZE, (4, 4, 16777228), NONE, MachCause::Cpu, 0, 16777228),
+    (SIZE, (4, 12, 6), NONE, MachCause::FileType, 0, 6),
+    (SIZE, (4, 16, 1025), NONE, MachCause::Count, 0, 1025),
+    (SIZE, (4, 16, 1024), NONE, MachCause::CommandSize, 4, 360),
+    (SIZE, (4, 16, 4), NONE, MachCause::CommandSize, 4, 360),
     (
         SIZE,
-        [(4, 20, 4294967295), NONE],
+        (4, 20, 4294967295),
+        NONE,
         MachCause::CommandRange,
         0,
         4294967295,
     ),
-    (SIZE, [(4, 20, 327), NONE], MachCause::CommandSize, 3, 176),
-    (SIZE, [(4, 36, 71), NONE], MachCause::CommandSize, 1, 32),
-    (SIZE, [(4, 36, 0), NONE], MachCause::CommandSize, 1, 32),
-    (SIZE, [(4, 36, 336), NONE], MachCause::CommandSize, 1, 32),
-    (SIZE, [(4, 36, 64), NONE], MachCause::SegmentSize, 1, 64),
-    (SIZE, [(4, 32, 14), NONE], MachCause::Dynamic, 1, 14),
+    (SIZE, (4, 20, 327), NONE, MachCause::CommandSize, 3, 176),
+    (SIZE, (4, 36, 71), NONE, MachCause::CommandSize, 1, 32),
+    (SIZE, (4, 36, 0), NONE, MachCause::CommandSize, 1, 32),
+    (SIZE, (4, 36, 336), NONE, MachCause::CommandSize, 1, 32),
+    (SIZE, (4, 36, 64), NONE, MachCause::SegmentSize, 1, 64),
+    (SIZE, (4, 32, 14), NONE, MachCause::Dynamic, 1, 14),
     (
         SIZE,
-        [(4, 104, 0x8000_0028), NONE],
+        (4, 104, 0x8000_0028),
+        NONE,
         MachCause::Dynamic,
         2,
         0x8000_0028,
     ),
     (
         SIZE,
-        [(8, 128, 4198401), NONE],
+        (8, 128, 4198401),
+        NONE,
         MachCause::Aligned,
         2,
         4198401,
     ),
-    (SIZE, [(8, 144, 1), NONE], MachCause::Aligned, 2, 4198400),
-    (SIZE, [(8, 136, 4097), NONE], MachCause::Aligned, 2, 4198400),
+    (SIZE, (8, 144, 1), NONE, MachCause::Aligned, 2, 4198400),
+    (SIZE, (8, 136, 4097), NONE, MachCause::Aligned, 2, 4198400),
     // a segment that maps nothing is asked too
-    (SIZE, [(8, 64, 1), NONE], MachCause::Aligned, 1, 0),
-    (SIZE, [(8, 152, 8192), NONE], MachCause::Sizes, 2, 8192),
+    (SIZE, (8, 64, 1), NONE, MachCause::Aligned, 1, 0),
+    (SIZE, (8, 152, 8192), NONE, MachCause::Sizes, 2, 8192),
     (
         SIZE,
-        [(8, 144, 268435456), NONE],
+        (8, 144, 268435456),
+        NONE,
         MachCause::Range,
         2,
         268435456,
     ),
     (
         SIZE,
-        [(8, 72, 268435456), NONE],
+        (8, 72, 268435456),
+        NONE,
         MachCause::Range,
         1,
         268435456,
     ),
-    (20479, [NONE, NONE], MachCause::Range, 2, 16384),
+    (20479, NONE, NONE, MachCause::Range, 2, 16384),
     (
         SIZE,
-        [(8, 128, 140737488355328), NONE],
+        (8, 128, 140737488355328),
+        NONE,
         MachCause::Top,
         2,
         140737488355328,
     ),
     (
         SIZE,
-        [(8, 64, 0xffff_ffff_ffff_f000), NONE],
+        (8, 64, 0xffff_ffff_ffff_f000),
+        NONE,
         MachCause::Top,
         1,
         0,
     ),
     (
         SIZE,
-        [(4, 92, 1), (8, 128, 4194304)],
+        (4, 92, 1),
+        (8, 128, 4194304),
         MachCause::Order,
         2,
         4194304,
     ),
-    (SIZE, [(4, 184, 5), NONE], MachCause::Thread, 3, 184),
-    (SIZE, [(4, 188, 41), NONE], MachCause::Thread, 3, 184),
-    (
-        SIZE,
-        [(4, 180, 176), (4, 20, 320)],
-        MachCause::Thread,
-        3,
-        176,
-    ),
-    (SIZE, [(4, 176, 27), NONE], MachCause::NoThread, 0, 0),
-    (SIZE, [(4, 16, 0), NONE], MachCause::NoThread, 0, 0),
+    (SIZE, (4, 184, 5), NONE, MachCause::Thread, 3, 184),
+    (SIZE, (4, 188, 41), NONE, MachCause::Thread, 3, 184),
+    (SIZE, (4, 180, 176), (4, 20, 320), MachCause::Thread, 3, 176),
+    (SIZE, (4, 176, 27), NONE, MachCause::NoThread, 0, 0),
+    (SIZE, (4, 16, 0), NONE, MachCause::NoThread, 0, 0),
 ];
 
 #[test]
 fn refusals(rt: HostRuntime) {
-    for (size, changes, cause, item, value) in REFUSED {
-        let file = image(&rt, &changes);
+    for (size, first, second, cause, item, value) in REFUSED {
+        let file = image(&rt, &[first, second]);
         let fault = MachFault { cause, item, value };
         assert!(rt; MachReading.read(file.get(..size).unwrap_or(b"")).err() == Some(fault));
     }
@@ -209,11 +211,7 @@ fn programs_are_mapped(rt: HostRuntime) {
 #[test]
 fn second_threads_are_refused(rt: HostRuntime) {
     let mut file = image(&rt, &[(4, 16, 4), (4, 20, 512)]);
-    let thread = *file
-        .get(176..360)
-        .and_then(|t| t.first_chunk::<184>())
-        .unwrap_or(&[0; 184]);
-    file[360..544].copy_from_slice(&thread);
+    thread(&rt, &mut file, 360);
     let fault = MachFault {
         cause: MachCause::Thread,
         item: 4,
@@ -308,7 +306,8 @@ fn headers_are_written(rt: HostRuntime) {
         file: 0x4000,
         len: 0x1000,
     }];
-    assert!(rt; mach_headers(0x40_1000, &loads, &areas).as_slice() == &file[..360]);
+    let headers = mach_headers(0x40_1000, &loads, &areas);
+    assert!(rt; Some(headers.as_slice()) == file.get(..360));
     let mut block = Block::new();
     assert!(rt; write_headers(&mut block, 8192, 0x40_1000, &loads, &areas).is_ok());
     assert!(rt; block.bytes().get(8192..8552) == file.get(..360));
