@@ -17,7 +17,7 @@ use std::alloc::Global;
 ///
 /// The answer is `Rule` exactly where the inputs break a rule, with the fault of the first one that they break, all of input 1
 /// before input 2; and `NoMemory` where they break none and there is no memory for the linked file. The options name no
-/// macOS, which isn't linked for yet, and no magic for debuggers together with Windows.
+/// magic for debuggers together with Windows.
 ///
 /// The block, which is free, holds the first bytes of the linked file afterwards, each with the owners that claim it. Where the
 /// inputs break a rule it stays as it was, and where memory ran out it is either.

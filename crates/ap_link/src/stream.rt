@@ -22,8 +22,7 @@ use ap_files::Files;
 use ap_layout::place;
 
 /// Links the file `first`, and the file `second` where there is one, into the file `out`, and answers the size of the linked
-/// file in bytes. The options name no macOS, which isn't linked for yet, and no
-/// magic for debuggers together with Windows.
+/// file in bytes. The options name no magic for debuggers together with Windows.
 ///
 /// Nothing is started before every rule holds. Then the inputs' bytes are read and written in pieces, so that inputs of any
 /// size take no memory of the heap.

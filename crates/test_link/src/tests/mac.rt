@@ -9,12 +9,8 @@ use ap_fields::{put16, put32, put64};
 use ap_image::Reading;
 use ap_link::{LinkFault, link};
 use ap_machmap::MachReading;
+use bitflags::Flags;
 use std::test::Fail;
-
-/// The length of the linked file, and of its Mach-O header.
-const LINKED: usize = 20480;
-
-const HEADER: usize = 360;
 
 #[test]
 fn a_copy_starts_where_the_symbol_tells(rt: HostRuntime) -> Result<(), Fail> {
@@ -23,12 +19,12 @@ fn a_copy_starts_where_the_symbol_tells(rt: HostRuntime) -> Result<(), Fail> {
     let Ok(file) = linked else {
         return Err("refused".into());
     };
-    assert!(rt; file.len() == LINKED);
+    assert!(rt; file.len() == 20480);
     assert!(rt; block.owners(8191) == Owners::SHELL && block.owners(8192) == Owners::MACH);
     assert!(rt; block.owners(8551) == Owners::MACH && block.owners(8552) == Owners::default());
-    let mut copy = [0; LINKED];
-    copy.copy_from_slice(&file);
-    copy[..HEADER].copy_from_slice(&file[8192..8192 + HEADER]);
+    let mut copy = Vec::new(rt.alloc());
+    copy.extend_from_slice(file.get(8192..8552).ok_or("short")?)?;
+    copy.extend_from_slice(file.get(360..).ok_or("short")?)?;
     let Ok(plan) = MachReading.read(&copy) else {
         return Err("no Mach-O file".into());
     };
