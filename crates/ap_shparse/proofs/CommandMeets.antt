@@ -26,7 +26,7 @@ use Rattle.ap_shparse.specs.declared.tree.Word.TheVariants as word
 use Rattle.ap_shparse.proofs.Keeps.{both_of, inner, left_of, right_of}
 use Rattle.ap_shparse.proofs.GapLemmas.{after_short}
 use Rattle.ap_shparse.proofs.LineMeets.{Meets, past_short}
-use Rattle.ap_shparse.proofs.PieceMeets.{TMeets, expected}
+use Rattle.ap_shparse.proofs.PieceMeets.{TMeets, expected, or_false, or_true}
 use Rattle.ap_shparse.proofs.WordMeets.{assignment_meets, word_meets}
 use Rattle.ap_shparse.proofs.RedirectMeets.{redirection_begins, redirection_short, redirection_sound, redirection_whole}
 
@@ -171,14 +171,6 @@ element_short sub IsSub k worded p q (rule.redirected o r) x = redirection_short
 
 -- ---- whether a word stands before
 
-same_or : (v : Bool) → v ≡ v || false
-same_or true = refl
-same_or false = refl
-
-true_or : (v : Bool) → true ≡ v || true
-true_or true = refl
-true_or false = refl
-
 not_nil : (ws : List Word) (w : Word) → is_nil (ws ++ w ∷ []) ≡ false
 not_nil [] w = refl
 not_nil (v ∷ ws) w = refl
@@ -194,10 +186,10 @@ with_word_words e k w = by_nil (is_nil e.words)
     by_nil false = not_nil e.words w
 
 next_worded : (worded : Bool) (e : Elements) → is_nil e.words ≡ not worded → (x : Element) → is_nil (with_element e x).words ≡ not (worded || is_word x)
-next_worded worded e s (rule.assigns a) = s ∙ ap not (same_or worded)
-next_worded worded e s (rule.plain k w) = with_word_words e k w ∙ ap not (true_or worded)
-next_worded worded e s rule.arguments = not_nil e.words word.Args ∙ ap not (true_or worded)
-next_worded worded e s (rule.redirected o r) = s ∙ ap not (same_or worded)
+next_worded worded e s (rule.assigns a) = s ∙ ap not (or_false worded)
+next_worded worded e s (rule.plain k w) = with_word_words e k w ∙ ap not (or_true worded)
+next_worded worded e s rule.arguments = not_nil e.words word.Args ∙ ap not (or_true worded)
+next_worded worded e s (rule.redirected o r) = s ∙ ap not (or_false worded)
 
 -- ---- here-documents
 
@@ -381,8 +373,8 @@ total_is [] e f =
     by_nil false n = refl
 
     by_more : (v : Bool) → e.more ≡ (e.more || (if v then false else false))
-    by_more true = same_or e.more
-    by_more false = same_or e.more
+    by_more true = or_false e.more
+    by_more false = or_false e.more
 total_is (rule.assigns a ∷ xs) e f =
     let d = with_element e (rule.assigns a) in
     total_is xs d (fresh e (rule.assigns a) f)
@@ -421,7 +413,7 @@ total_is (rule.plain k w ∷ xs) e f = by_nil (is_nil e.words) refl (λ d g. tot
         let d = word_by false e k w in
         rec d (λ x. absurd (words_there e.words w x))
         ∙ same_all (e.assigns ++ assigns_of xs) (e.assigns ++ assigns_of xs) (d.words ++ words_of xs) (e.words ++ w ∷ words_of xs) (e.redirections ++ redirections_of xs) (e.redirections ++ redirections_of xs) (with_all d xs).here
-        (total d xs).calls e.calls true (e.more || true) refl (append_assoc e.words (w ∷ []) (words_of xs)) refl (ap (λ v. if v then first_calls xs else e.calls) (not_nil e.words w)) (true_or e.more)
+        (total d xs).calls e.calls true (e.more || true) refl (append_assoc e.words (w ∷ []) (words_of xs)) refl (ap (λ v. if v then first_calls xs else e.calls) (not_nil e.words w)) (or_true e.more)
 
 and_false : (v : Bool) → v && false ≡ false
 and_false true = refl

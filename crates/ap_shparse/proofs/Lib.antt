@@ -23,3 +23,4 @@ pub mod RedirectMeets
 pub mod CommandMeets
 pub mod ListMeets
 pub mod ScriptMeets
+pub mod FrontMeets

@@ -18,6 +18,7 @@ use Rattle.ap_shparse.specs.declared.tree.Chain.{Chain}
 use Rattle.ap_shparse.specs.declared.tree.Joined.{Joined}
 use Rattle.ap_shparse.specs.declared.tree.Node.TheVariants as node
 use Rattle.ap_shparse.proofs.Keeps.{both_of, inner, left_of, right_of}
+use Rattle.ap_shparse.proofs.ItemLemmas.{some_end, some_turn}
 use Rattle.ap_shparse.proofs.GapLemmas.{after_short, gap_short, newline_short}
 use Rattle.ap_shparse.proofs.CommandMeets.{simple_meets, substitution_meets}
 use Rattle.ap_shparse.proofs.LineMeets.{Meets, keyword_at, keyword_short, keyword_sound, keyword_whole, lines_shorter, lines_sound, lines_whole}
@@ -372,14 +373,6 @@ with_chain found c q = and_then (ended (past_gap q)) (λ _. pure (found ++ c.cha
 abbrev at_item : Lists → ℕ → List Chain → Place → Outcome Place (List Chain)
 at_item below n found q = if closes q.text then Some (found, q) else and_then (next_item below found q) (items_from below n)
 
-some_end : (o : Option Place) (a b : List Chain) (q : Place) → and_then (eaten o) (λ _. pure a) ≡ Some (b, q) → o ≡ Some q
-some_end None a b q e = cc
-some_end (Some r) a b q e = ap (λ y. Some y) (right_of a b r q e)
-
-same_list : (o : Option Place) (a b : List Chain) (q : Place) → and_then (eaten o) (λ _. pure a) ≡ Some (b, q) → a ≡ b
-same_list None a b q e = cc
-same_list (Some r) a b q e = left_of a b r q e
-
 record OneItem (IsBelow : Rule (List Chain)) (found : List Chain) (p q : Place) (cs : List Chain) : Type 0 where
   pub one : Item
   pub is_one : IsEnded IsBelow p q one
@@ -398,9 +391,9 @@ next_sound below IsBelow k found p r q cs l e =
         item_end = w.left;
         are_lines = lines_sound p r l;
         is_item = (item_meets below IsBelow k).sound r w.left w.first w.is_first;
-        is_end = some_end o (found ++ w.first.chain ∷ []) cs q w.is_second;
+        is_end = some_end o q cs (found ++ w.first.chain ∷ []) w.is_second;
       };
-      value = sym (same_list o (found ++ w.first.chain ∷ []) cs q w.is_second);
+      value = some_turn o q cs (found ++ w.first.chain ∷ []) w.is_second;
     }
 
 next_whole : (below : Lists) (IsBelow : Rule (List Chain)) → Meets 0 below IsBelow

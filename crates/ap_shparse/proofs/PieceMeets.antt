@@ -307,10 +307,10 @@ quote_sound sub IsSub k f t m g e =
     by_text [] nq nb nd e = cc
     by_text (c ∷ u) nq nb nd e = by_back c u (no_byte 34 c u nq) (no_byte 92 c u nb) (no_byte 36 c u nd) (c == 96) refl e
 
-not_true : (x y : Bool) → not (x || y) ≡ true → (x ≡ false) × (y ≡ false)
-not_true true y e = cc
-not_true false true e = cc
-not_true false false e = (refl, refl)
+pub neither : (x y : Bool) → not (x || y) ≡ true → (x ≡ false) × (y ≡ false)
+neither true y e = cc
+neither false true e = cc
+neither false false e = (refl, refl)
 
 quote_whole : (sub : Text → Outcome Text Simple) (IsSub : TextRule Simple) → TMeets 0 sub IsSub → (f : Found) (t m : Text) (q : Quote) → IsQuote IsSub t m q → unit sub (set true f) t ≡ Some (set true (add f (quote_gives q)), m)
 unfolding unit inside quoted escaped
@@ -326,7 +326,7 @@ quote_whole sub IsSub k f t m rule.backslash x = ap (unit sub (set true f)) x.0 
     by_text : (m : Text) → stays m ≡ true → escaped (set true f) m ≡ Some (with_bytes (set true f) (92 ∷ []), m)
     by_text [] s = cc
     by_text (c ∷ w) s =
-        let n = not_true (c == 10) (is_among c escapable) s in
+        let n = neither (c == 10) (is_among c escapable) s in
         ap₂ (λ x y. by_escape x y f c w) n.0 n.1
 quote_whole sub IsSub k f t m (rule.escape c) x =
     ap (unit sub (set true f)) x.0
@@ -594,11 +594,11 @@ added_tilde [] f = refl
 added_tilde (rule.bytes b ∷ gs) f = added_tilde gs (with_bytes f b)
 added_tilde (rule.expanded p ∷ gs) f = added_tilde gs (with_part f p)
 
-or_false : (v : Bool) → v ≡ v || false
+pub or_false : (v : Bool) → v ≡ v || false
 or_false true = refl
 or_false false = refl
 
-or_true : (v : Bool) → true ≡ v || true
+pub or_true : (v : Bool) → true ≡ v || true
 or_true true = refl
 or_true false = refl
 

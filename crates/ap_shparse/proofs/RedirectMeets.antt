@@ -21,7 +21,7 @@ use Rattle.ap_shparse.specs.declared.tree.Word.{Word}
 use Rattle.ap_shparse.proofs.Keeps.{both_of, left_of, right_of}
 use Rattle.ap_shparse.proofs.GapLemmas.{after_short, run_front}
 use Rattle.ap_shparse.proofs.HereMeets.{here_meets}
-use Rattle.ap_shparse.proofs.PieceMeets.{TMeets, after_of, byte_at, eaten_or, run_of}
+use Rattle.ap_shparse.proofs.PieceMeets.{TMeets, after_of, byte_at, eaten_or, neither, run_of}
 use Rattle.ap_shparse.proofs.WordMeets.{word_meets}
 
 -- ---- operators
@@ -63,11 +63,6 @@ operator_sound t u o e =
 not_true : (v : Bool) → not v ≡ true → v ≡ false
 not_true true e = cc
 not_true false e = refl
-
-neither : (v w : Bool) → not (v || w) ≡ true → (v ≡ false) × (w ≡ false)
-neither true w e = cc
-neither false true e = cc
-neither false false e = (refl, refl)
 
 operator_whole : (t u : Text) (o : Operator) → IsRedirectOperator t u o → next_operator t ≡ Some (o, u)
 unfolding next_operator

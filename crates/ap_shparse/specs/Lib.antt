@@ -18,3 +18,4 @@ pub mod ListRules
 pub mod RedirectRules
 pub mod CommandRules
 pub mod ScriptRules
+pub mod FrontRules

@@ -1,7 +1,10 @@
 //! What holds of the grammar itself.
-ghost use Rattle.std.specs.Prelude.{List, ℕ, ◌++◌, ◌≡◌};
-ghost use Rattle.ap_shparse.specs.Grammar.{IsLineFront, IsScript, IsStopped, IsUnstopped};
+ghost use Rattle.std.specs.Prelude.{List, Some, ℕ, ◌++◌, ◌≡◌};
+ghost use Rattle.ap_shparse.specs.FrontRules.{IsWholeFront};
+ghost use Rattle.ap_shparse.specs.Fronts.{front};
+ghost use Rattle.ap_shparse.specs.Grammar.{IsLineFront, IsScript, IsStopped, IsUnstopped, seen};
 ghost use Rattle.ap_shparse.specs.ScriptRules.{IsProgram};
+ghost use Rattle.ap_shparse.specs.declared.script.Turn.{Turn};
 ghost use Rattle.ap_shparse.specs.declared.tree.Chain.{Chain};
 ghost use Rattle.ap_shparse.specs.declared.tree.Nul.{Nul};
 
@@ -9,6 +12,14 @@ ghost use Rattle.ap_shparse.specs.declared.tree.Nul.{Nul};
 pub fn scripts_are_programs()
     ensures obeys { (n : Nul) (t : List ℕ) (cs : List Chain) → IsScript n t cs → IsProgram n t cs }
     ensures whole { (n : Nul) (t : List ℕ) (cs : List Chain) → IsProgram n t cs → IsScript n t cs }
+{}
+
+/// The whole fronts that are read, each with its items, are those that the rules of the grammar have.
+pub fn fronts_are_lists()
+    ensures obeys { (n : Nul) (a : List ℕ) (ts : List Turn)
+        → front (seen n a) ≡ Some ts → IsWholeFront n a ts }
+    ensures whole { (n : Nul) (a : List ℕ) (ts : List Turn)
+        → IsWholeFront n a ts → front (seen n a) ≡ Some ts }
 {}
 
 /// Whole lines without a stopping command, and a text of the grammar behind them, are in the grammar, and the script is
