@@ -1,17 +1,19 @@
 -- The simple commands that are read are those that the rules have.
-use Rattle.std.proofs.Common.{◌≡◌, ◌∙◌, ◌≤◌, ◌+◌, ℕ, zero, suc, List, [], ◌∷◌, ◌++◌, refl, sym, ap, ap₂, subst, Bool, true, false, if◌then◌else◌, ◌||◌, ◌&&◌, not, length, arith, append-nil, append_assoc}
+use Rattle.std.proofs.Common.{◌≡◌, ◌∙◌, ◌≤◌, ◌+◌, ℕ, zero, suc, List, [], ◌∷◌, ◌++◌, inl, inr, ◌==◌, refl, sym, ap, ap₂, subst, Bool, true, false, if◌then◌else◌, ◌||◌, ◌&&◌, not, length, arith, append-nil, append_assoc}
 use Rattle.std.specs.Prelude.{Option, Some, None, is_some}
-use Rattle.ap_shparse.specs.Bytes.{Text, after, past, run}
+use Rattle.std.proofs.lemmas.Bool.Decides.{nat_tests}
+use Rattle.ap_shparse.specs.Bytes.{Text, after, begins_with, ends_word, has, is_digit, is_letter, is_plain, past, run}
 use Rattle.ap_shparse.specs.Reads.{Outcome, and_then, if_eaten, pure}
-use Rattle.ap_shparse.specs.Pieces.{expect}
+use Rattle.ap_shparse.specs.Pieces.{begins_name, expect}
 use Rattle.ap_shparse.specs.Places.{Place, args, at_text, waits}
-use Rattle.ap_shparse.specs.Words.{assignment, is_assignment, plain_word}
-use Rattle.ap_shparse.specs.Redirects.{next_operator, number, redirects, target_of}
+use Rattle.ap_shparse.specs.Words.{assignment, begins_word, is_assignment, plain_word}
+use Rattle.ap_shparse.specs.Redirects.{is_angle, next_operator, number, redirects, target_of}
 use Rattle.ap_shparse.specs.Commands.{alone, assigned, called, calls_at, element, elements, ends_command, is_empty, is_here, is_nil, is_reserved, next_word, no_elements, no_substitution, past_blanks, redirection, redirection_of, simple, substitution, targeted, with_args, with_redirection, with_word}
 use Rattle.ap_shparse.specs.LineRules.{moved}
 use Rattle.ap_shparse.specs.PieceRules.{TextRule}
+use Rattle.ap_shparse.specs.WordRules.{IsAssignment, IsWord}
 use Rattle.ap_shparse.specs.CommandRules as rule
-use Rattle.ap_shparse.specs.CommandRules.{AreElements, AreSome, BeginsWord, Element, IsElement, IsNoSubstitution, IsSimple, IsSubstitution, assigns_of, called_by, first_calls, has_more, has_plain, is_word, no_here, one_here, redirections_of, words_of}
+use Rattle.ap_shparse.specs.CommandRules.{AreElements, AreSome, Element, IsElement, IsNoSubstitution, IsSimple, IsSubstitution, assigns_of, called_by, first_calls, has_more, has_plain, is_word, no_here, one_here, redirections_of, words_of}
 use Rattle.ap_shparse.specs.declared.class.Class.TheVariants.{Blank, Digit}
 use Rattle.ap_shparse.specs.declared.elements.Called.{Called}
 use Rattle.ap_shparse.specs.declared.elements.Calls.{Calls}
@@ -24,11 +26,94 @@ use Rattle.ap_shparse.specs.declared.tree.Simple.{Simple}
 use Rattle.ap_shparse.specs.declared.tree.Word.{Word}
 use Rattle.ap_shparse.specs.declared.tree.Word.TheVariants as word
 use Rattle.ap_shparse.proofs.Keeps.{both_of, inner, left_of, right_of}
+use Rattle.ap_shparse.proofs.KeptWords.{begins_inside}
 use Rattle.ap_shparse.proofs.GapLemmas.{after_short}
 use Rattle.ap_shparse.proofs.LineMeets.{Meets, past_short}
-use Rattle.ap_shparse.proofs.PieceMeets.{TMeets, expected, or_false, or_true}
-use Rattle.ap_shparse.proofs.WordMeets.{assignment_meets, word_meets}
+use Rattle.ap_shparse.proofs.PieceMeets.{TMeets, expected, or_false, or_true, same_byte}
+use Rattle.ap_shparse.proofs.WordMeets.{assignment_meets, looks_so, word_meets}
 use Rattle.ap_shparse.proofs.RedirectMeets.{redirection_begins, redirection_short, redirection_sound, redirection_whole}
+
+-- ---- how elements begin
+
+-- no redirection and no assignment stands there, or an assignment does
+abbrev BeginsWord : Bool → Place → Bool → Type 0
+BeginsWord worded p assigning = (redirects p.text ≡ false) × ((not worded && is_assignment p.text) ≡ assigning)
+
+first_byte : (c : ℕ) (ks t u : Text) → past (c ∷ ks) t ≡ Some u → (v : Text) × (t ≡ c ∷ v)
+first_byte c ks [] u e = cc
+first_byte c ks (d ∷ t) u e = by_byte (d == c) refl e
+  where
+    by_byte : (v : Bool) → (d == c) ≡ v → (if v then past ks t else None) ≡ Some u → (w : Text) × (d ∷ t ≡ c ∷ w)
+    by_byte true is e = (t, ap (λ y. y ∷ t) (same_byte d c is))
+    by_byte false is e = cc
+
+quote_begins : (t : Text) → (redirects (34 ∷ t) ≡ false) × (is_assignment (34 ∷ t) ≡ false) × (ends_command (34 ∷ t) ≡ false)
+unfolding redirects is_assignment ends_word has
+quote_begins t = (refl, refl, refl)
+
+and_false : (v : Bool) → v && false ≡ false
+and_false true = refl
+and_false false = refl
+
+args_text : (p q : Place) → moved p (past args p.text) ≡ Some q → (v : Text) × (p.text ≡ 34 ∷ v)
+args_text p q x = by_args (past args p.text) refl x
+  where
+    by_args : (o : Option Text) → past args p.text ≡ o → moved p o ≡ Some q → (v : Text) × (p.text ≡ 34 ∷ v)
+    by_args None is m = cc
+    by_args (Some t) is m = first_byte 34 (36 ∷ 64 ∷ 34 ∷ []) p.text t is
+
+args_begin : (worded : Bool) (p q : Place) → moved p (past args p.text) ≡ Some q → BeginsWord worded p false
+args_begin worded p q x =
+    let t = args_text p q x in
+    let b = quote_begins t.0 in
+    (ap redirects t.1 ∙ b.0, ap (λ y. not worded && is_assignment y) t.1 ∙ ap (λ y. not worded && y) b.1 ∙ and_false (not worded))
+
+letter_redirects : (c : ℕ) (t : Text) → is_letter c ≡ true → redirects (c ∷ t) ≡ false
+unfolding redirects has
+letter_redirects c t e =
+    let d : is_digit c ≡ false = grind (arith, nat_tests) in
+    let l : (c == 60) ≡ false = grind (arith, nat_tests) in
+    let g : (c == 62) ≡ false = grind (arith, nat_tests) in
+    ap (λ v. is_angle (if v then after Digit t else c ∷ t)) d ∙ ap₂ (λ x y. is_some (if x then Some t else None) || is_some (if y then Some t else None)) l g
+
+letter_inside : (c : ℕ) (t : Text) → is_letter c ≡ true → (ends_word (c ∷ t) ≡ false) × (begins_with 35 (c ∷ t) ≡ false)
+unfolding ends_word
+letter_inside c t e = (grind (arith, nat_tests), let h : (c == 35) ≡ false = grind (arith, nat_tests) in ap (λ v. is_some (if v then Some t else None)) h)
+
+named_redirects : (t : Text) → begins_name t ≡ true → redirects t ≡ false
+named_redirects [] e = cc
+named_redirects (c ∷ t) e = letter_redirects c t e
+
+assigned_begins : (IsSub : TextRule Simple) (t u : Text) (a : Assign) → IsAssignment IsSub t u a → redirects t ≡ false
+assigned_begins IsSub t u a x = named_redirects t x.is_name.begins
+
+inside_goes : (t : Text) → ends_word t ≡ false → begins_with 35 t ≡ false → ends_command t ≡ false
+inside_goes t e h = ap₂ (λ x y. not (redirects t) && (x || y)) e h ∙ and_false (not (redirects t))
+
+named_goes : (t : Text) → begins_name t ≡ true → ends_command t ≡ false
+named_goes [] e = cc
+named_goes (c ∷ t) e = let l = letter_inside c t e in inside_goes (c ∷ t) l.0 l.1
+
+lone_goes : (t : Text) → (ends_command (91 ∷ t) ≡ false) × (ends_command (33 ∷ t) ≡ false)
+unfolding redirects ends_word has
+lone_goes t = (refl, refl)
+
+no_hash : (t : Text) → begins_word t ≡ true → begins_with 35 t ≡ false
+unfolding begins_word is_plain
+no_hash [] e = cc
+no_hash (c ∷ t) e = let h : (c == 35) ≡ false = grind (arith, nat_tests) in ap (λ v. is_some (if v then Some t else None)) h
+
+word_goes : (IsSub : TextRule Simple) (t u : Text) (w : Word) → IsWord IsSub t u w → ends_command t ≡ false
+word_goes IsSub t u w (inl x) = let f = first_byte 91 [] t u x.0 in ap ends_command f.1 ∙ (lone_goes f.0).0
+word_goes IsSub t u w (inr (inl x)) = let f = first_byte 33 (61 ∷ []) t u x.0 in ap ends_command f.1 ∙ (lone_goes f.0).1
+word_goes IsSub t u w (inr (inr x)) = inside_goes t (begins_inside t x.begins) (no_hash t x.begins)
+
+-- where an element begins, the command goes on
+element_goes : (IsSub : TextRule Simple) (worded : Bool) (p q : Place) (x : Element) → IsElement IsSub worded p q x → ends_command p.text ≡ false
+element_goes IsSub worded p q (rule.assigns a) x = named_goes p.text x.2.is_name.begins
+element_goes IsSub worded p q (rule.plain c w) x = word_goes IsSub p.text x.0.0 w x.0.4
+element_goes IsSub worded p q rule.arguments x = let t = args_text p q x in ap ends_command t.1 ∙ (quote_begins t.0).2
+element_goes IsSub worded p q (rule.redirected o r) x = ap (λ v. not v && (ends_word p.text || begins_with 35 p.text)) (redirection_begins IsSub o p q r x)
 
 -- ---- what is found with an element
 
@@ -93,17 +178,21 @@ worded_sound sub IsSub k worded e p q f b x = by_args (past args p.text) refl x
         let w = both_of (plain_word sub p.text) (λ y t. Some (with_word e (calls_at p.text) y, at_text p t)) (f, q) x in
         record {
           one = rule.plain (calls_at p.text) w.first;
-          is_one = (b, is, refl, (w.left, (word_meets sub IsSub k).sound p.text w.left w.first w.is_first, sym (right_of (with_word e (calls_at p.text) w.first) f (at_text p w.left) q w.is_second)));
+          is_one = ((w.left, b.0, b.1, is, (word_meets sub IsSub k).sound p.text w.left w.first w.is_first, sym (right_of (with_word e (calls_at p.text) w.first) f (at_text p w.left) q w.is_second)), refl);
           is_first = tt;
           value = sym (left_of (with_word e (calls_at p.text) w.first) f (at_text p w.left) q w.is_second);
         }
     by_args (Some t) is x =
         record {
           one = rule.arguments;
-          is_one = (b, ap (moved p) is ∙ ap (λ y. Some y) (right_of (with_args e) f (at_text p t) q x));
+          is_one = ap (moved p) is ∙ ap (λ y. Some y) (right_of (with_args e) f (at_text p t) q x);
           is_first = tt;
           value = sym (left_of (with_args e) f (at_text p t) q x);
         }
+
+no_word : (v w : Bool) → not v && w ≡ true → v ≡ false
+no_word true w e = cc
+no_word false w e = refl
 
 assigned_sound : (sub : Text → Outcome Text Simple) (IsSub : TextRule Simple) → TMeets 0 sub IsSub → (worded : Bool) (e : Elements) (p q : Place) (f : Elements) → BeginsWord worded p true → assigned sub e p ≡ Some (f, q) → OneElement IsSub worded e p q f
 unfolding assigned
@@ -111,7 +200,7 @@ assigned_sound sub IsSub k worded e p q f b x =
     let w = both_of (assignment sub p.text) (λ a t. Some (with_element e (rule.assigns a), at_text p t)) (f, q) x in
     record {
       one = rule.assigns w.first;
-      is_one = (b, (w.left, (assignment_meets sub IsSub k).sound p.text w.left w.first w.is_first, sym (right_of (with_element e (rule.assigns w.first)) f (at_text p w.left) q w.is_second)));
+      is_one = (w.left, no_word worded (is_assignment p.text) b.1, (assignment_meets sub IsSub k).sound p.text w.left w.first w.is_first, sym (right_of (with_element e (rule.assigns w.first)) f (at_text p w.left) q w.is_second));
       is_first = tt;
       value = sym (left_of (with_element e (rule.assigns w.first)) f (at_text p w.left) q w.is_second);
     }
@@ -137,19 +226,20 @@ element_whole : (sub : Text → Outcome Text Simple) (IsSub : TextRule Simple) �
     → IsFirst e.here x → element sub e p ≡ Some (with_element e x, q)
 unfolding assigned next_word redirection element
 element_whole sub IsSub k worded e s p q (rule.assigns a) x h =
-    begun sub worded e s p true x.0
-    ∙ ap (λ o. and_then o (λ b t. Some (with_element e (rule.assigns b), at_text p t))) ((assignment_meets sub IsSub k).whole p.text x.1.0 a x.1.1)
-    ∙ ap (λ y. Some (with_element e (rule.assigns a), y)) (sym x.1.2)
-element_whole sub IsSub k worded e s p q rule.arguments x h = begun sub worded e s p false x.0 ∙ by_args (past args p.text) x.1
+    begun sub worded e s p true (assigned_begins IsSub p.text x.0 a x.2, ap₂ (λ y z. not y && z) x.1 (looks_so IsSub p.text x.0 a x.2))
+    ∙ ap (λ o. and_then o (λ b t. Some (with_element e (rule.assigns b), at_text p t))) ((assignment_meets sub IsSub k).whole p.text x.0 a x.2)
+    ∙ ap (λ y. Some (with_element e (rule.assigns a), y)) (sym x.3)
+element_whole sub IsSub k worded e s p q rule.arguments x h = begun sub worded e s p false (args_begin worded p q x) ∙ by_args (past args p.text) x
   where
     by_args : (o : Option Text) → moved p o ≡ Some q → if_eaten o (found_args e p) (found_word sub e p) ≡ Some (with_args e, q)
     by_args None m = cc
     by_args (Some t) m = ap (λ y. Some (with_args e, y)) (inner (at_text p t) q m)
 element_whole sub IsSub k worded e s p q (rule.plain c w) x h =
-    begun sub worded e s p false x.0
-    ∙ ap (λ o. if_eaten o (found_args e p) (found_word sub e p)) x.1
-    ∙ ap (λ o. and_then o (λ y t. Some (with_word e (calls_at p.text) y, at_text p t))) ((word_meets sub IsSub k).whole p.text x.3.0 w x.3.1)
-    ∙ ap₂ (λ y z. Some (with_word e y w, z)) (sym x.2) (sym x.3.2)
+    let i = x.0 in
+    begun sub worded e s p false (i.1, i.2)
+    ∙ ap (λ o. if_eaten o (found_args e p) (found_word sub e p)) i.3
+    ∙ ap (λ o. and_then o (λ y t. Some (with_word e (calls_at p.text) y, at_text p t))) ((word_meets sub IsSub k).whole p.text i.0 w i.4)
+    ∙ ap₂ (λ y z. Some (with_word e y w, z)) (sym x.1) (sym i.5)
 element_whole sub IsSub k worded e s p q (rule.redirected o r) x h =
     let f = redirection_whole sub IsSub k o p q r x in
     ap (λ v. by_begin sub e p v (is_nil e.words && is_assignment p.text)) (redirection_begins IsSub o p q r x)
@@ -160,13 +250,13 @@ element_whole sub IsSub k worded e s p q (rule.redirected o r) x h =
     ∙ ap (λ y. Some (with_element e (rule.redirected o y), q)) (sym x.value)
 
 element_short : (sub : Text → Outcome Text Simple) (IsSub : TextRule Simple) → TMeets 0 sub IsSub → (worded : Bool) (p q : Place) (x : Element) → IsElement IsSub worded p q x → 1 + length q.text ≤ length p.text
-element_short sub IsSub k worded p q (rule.assigns a) x = omega (arith, (assignment_meets sub IsSub k).short p.text x.1.0 a x.1.1, ap (λ y. length y.text) x.1.2)
-element_short sub IsSub k worded p q rule.arguments x = by_args (past args p.text) refl x.1
+element_short sub IsSub k worded p q (rule.assigns a) x = omega (arith, (assignment_meets sub IsSub k).short p.text x.0 a x.2, ap (λ y. length y.text) x.3)
+element_short sub IsSub k worded p q rule.arguments x = by_args (past args p.text) refl x
   where
     by_args : (o : Option Text) → past args p.text ≡ o → moved p o ≡ Some q → 1 + length q.text ≤ length p.text
     by_args None is m = cc
     by_args (Some t) is m = omega (arith, past_short args p.text t is, ap (λ y. length y.text) (inner (at_text p t) q m))
-element_short sub IsSub k worded p q (rule.plain c w) x = omega (arith, (word_meets sub IsSub k).short p.text x.3.0 w x.3.1, ap (λ y. length y.text) x.3.2)
+element_short sub IsSub k worded p q (rule.plain c w) x = omega (arith, (word_meets sub IsSub k).short p.text x.0.0 w x.0.4, ap (λ y. length y.text) x.0.5)
 element_short sub IsSub k worded p q (rule.redirected o r) x = redirection_short sub IsSub k o p q r x
 
 -- ---- whether a word stands before
@@ -305,7 +395,7 @@ elements_sound sub IsSub k (suc n) worded e s p q f x = by_end (ends_command (pa
         let w = both_of (element sub e (past_blanks p)) (elements sub n) (f, q) x in
         let o = element_sound sub IsSub k worded e s (past_blanks p) w.left w.first w.is_first in
         let r = rec (worded || is_word o.one) (with_element e o.one) (next_worded worded e s o.one) w.left (ap (λ g. elements sub n g w.left) (sym o.value) ∙ w.is_second) in
-        record { all = o.one ∷ r.all; are_elements = (w.left, is, o.is_one, r.are_elements); heres = here_more e o.one r.all o.is_first r.heres; value = r.value }
+        record { all = o.one ∷ r.all; are_elements = (w.left, o.is_one, r.are_elements); heres = here_more e o.one r.all o.is_first r.heres; value = r.value }
 
 elements_whole : (sub : Text → Outcome Text Simple) (IsSub : TextRule Simple) → TMeets 0 sub IsSub → (xs : List Element) (n : ℕ) (worded : Bool) (e : Elements) → is_nil e.words ≡ not worded → (p q : Place) → AreElements IsSub worded p q xs
     → Heres e.here xs → length p.text ≤ n → elements sub n e p ≡ Some (with_all e xs, q)
@@ -313,20 +403,20 @@ unfolding elements
 elements_whole sub IsSub k [] zero worded e s p q a h le = ap (λ v. or_more v e p None) (ap (λ y. ends_command y.text) (sym a.0) ∙ a.1) ∙ ap (λ y. Some (e, y)) (sym a.0)
 elements_whole sub IsSub k [] (suc n) worded e s p q a h le =
     ap (λ v. or_more v e p (and_then (element sub e (past_blanks p)) (elements sub n))) (ap (λ y. ends_command y.text) (sym a.0) ∙ a.1) ∙ ap (λ y. Some (e, y)) (sym a.0)
-elements_whole sub IsSub k (x ∷ xs) zero worded e s p q a h le = absurd (omega (arith, le, element_short sub IsSub k worded (past_blanks p) a.0 x a.2, after_short Blank p.text))
+elements_whole sub IsSub k (x ∷ xs) zero worded e s p q a h le = absurd (omega (arith, le, element_short sub IsSub k worded (past_blanks p) a.0 x a.1, after_short Blank p.text))
 elements_whole sub IsSub k (x ∷ xs) (suc n) worded e s p q a h le =
     let t = split_heres e x xs h in
-    ap (λ v. or_more v e p (and_then (element sub e (past_blanks p)) (elements sub n))) a.1
-    ∙ ap (λ o. and_then o (elements sub n)) (element_whole sub IsSub k worded e s (past_blanks p) a.0 x a.2 t.is_first)
-    ∙ elements_whole sub IsSub k xs n (worded || is_word x) (with_element e x) (next_worded worded e s x) a.0 q a.3 t.are_rest (omega (arith, le, element_short sub IsSub k worded (past_blanks p) a.0 x a.2, after_short Blank p.text))
+    ap (λ v. or_more v e p (and_then (element sub e (past_blanks p)) (elements sub n))) (element_goes IsSub worded (past_blanks p) a.0 x a.1)
+    ∙ ap (λ o. and_then o (elements sub n)) (element_whole sub IsSub k worded e s (past_blanks p) a.0 x a.1 t.is_first)
+    ∙ elements_whole sub IsSub k xs n (worded || is_word x) (with_element e x) (next_worded worded e s x) a.0 q a.2 t.are_rest (omega (arith, le, element_short sub IsSub k worded (past_blanks p) a.0 x a.1, after_short Blank p.text))
 
 elements_short : (sub : Text → Outcome Text Simple) (IsSub : TextRule Simple) → TMeets 0 sub IsSub → (xs : List Element) (worded : Bool) (p q : Place) → AreElements IsSub worded p q xs → length q.text ≤ length p.text
 elements_short sub IsSub k [] worded p q a = omega (arith, ap (λ y. length y.text) a.0, after_short Blank p.text)
-elements_short sub IsSub k (x ∷ xs) worded p q a = omega (arith, element_short sub IsSub k worded (past_blanks p) a.0 x a.2, elements_short sub IsSub k xs (worded || is_word x) a.0 q a.3, after_short Blank p.text)
+elements_short sub IsSub k (x ∷ xs) worded p q a = omega (arith, element_short sub IsSub k worded (past_blanks p) a.0 x a.1, elements_short sub IsSub k xs (worded || is_word x) a.0 q a.2, after_short Blank p.text)
 
 some_short : (sub : Text → Outcome Text Simple) (IsSub : TextRule Simple) → TMeets 0 sub IsSub → (xs : List Element) (worded : Bool) (p q : Place) → AreSome xs → AreElements IsSub worded p q xs → 1 + length q.text ≤ length p.text
 some_short sub IsSub k [] worded p q s a = absurd s
-some_short sub IsSub k (x ∷ xs) worded p q s a = omega (arith, element_short sub IsSub k worded (past_blanks p) a.0 x a.2, elements_short sub IsSub k xs (worded || is_word x) a.0 q a.3, after_short Blank p.text)
+some_short sub IsSub k (x ∷ xs) worded p q s a = omega (arith, element_short sub IsSub k worded (past_blanks p) a.0 x a.1, elements_short sub IsSub k xs (worded || is_word x) a.0 q a.2, after_short Blank p.text)
 
 -- ---- what they are together
 
@@ -414,10 +504,6 @@ total_is (rule.plain k w ∷ xs) e f = by_nil (is_nil e.words) refl (λ d g. tot
         rec d (λ x. absurd (words_there e.words w x))
         ∙ same_all (e.assigns ++ assigns_of xs) (e.assigns ++ assigns_of xs) (d.words ++ words_of xs) (e.words ++ w ∷ words_of xs) (e.redirections ++ redirections_of xs) (e.redirections ++ redirections_of xs) (with_all d xs).here
         (total d xs).calls e.calls true (e.more || true) refl (append_assoc e.words (w ∷ []) (words_of xs)) refl (ap (λ v. if v then first_calls xs else e.calls) (not_nil e.words w)) (or_true e.more)
-
-and_false : (v : Bool) → v && false ≡ false
-and_false true = refl
-and_false false = refl
 
 are_some : (xs : List Element) → is_empty (with_all no_elements xs) ≡ false → AreSome xs
 are_some [] e = cc

@@ -36,26 +36,24 @@ is_word (plain k w) = true
 is_word arguments = true
 is_word e = false
 
--- where a word or an assignment begins: no redirection stands there
-abbrev pub BeginsWord : Bool → Place → Bool → Type 0
-BeginsWord worded p assigning = (redirects p.text ≡ false) × ((not worded && is_assignment p.text) ≡ assigning)
+-- a word, which no redirection's digit is, and no assignment where one may stand: where worded says that no word stands before
+abbrev pub IsPlain : TextRule Simple → Bool → Place → Place → Word → Type 0
+IsPlain IsSub worded p q w =
+    (t : Text) × (redirects p.text ≡ false) × ((not worded && is_assignment p.text) ≡ false) × (past args p.text ≡ None)
+    × IsWord IsSub p.text t w × (q ≡ at_text p t)
 
--- an element; worded says whether a word stands before it, behind which nothing is an assignment
+-- an element; an assignment has no word before it
 abbrev pub IsElement : TextRule Simple → Bool → Rule Element
-IsElement IsSub worded p q (assigns a) =
-    BeginsWord worded p true × ((t : Text) × IsAssignment IsSub p.text t a × (q ≡ at_text p t))
-IsElement IsSub worded p q arguments = BeginsWord worded p false × (moved p (past args p.text) ≡ Some q)
-IsElement IsSub worded p q (plain k w) =
-    BeginsWord worded p false × (past args p.text ≡ None) × (k ≡ calls_at p.text)
-    × ((t : Text) × IsWord IsSub p.text t w × (q ≡ at_text p t))
+IsElement IsSub worded p q (assigns a) = (t : Text) × (worded ≡ false) × IsAssignment IsSub p.text t a × (q ≡ at_text p t)
+IsElement IsSub worded p q (plain k w) = IsPlain IsSub worded p q w × (k ≡ calls_at p.text)
+IsElement IsSub worded p q arguments = moved p (past args p.text) ≡ Some q
 IsElement IsSub worded p q (redirected o r) = IsRedirection IsSub o p q r
 
 -- elements, each behind blanks, as far as they go
 abbrev pub AreElements : TextRule Simple → Bool → Rule (List Element)
 AreElements IsSub worded p q [] = (q ≡ past_blanks p) × (ends_command q.text ≡ true)
 AreElements IsSub worded p q (e ∷ es) =
-    (m : Place) × (ends_command (past_blanks p).text ≡ false) × IsElement IsSub worded (past_blanks p) m e
-    × AreElements IsSub (worded || is_word e) m q es
+    (m : Place) × IsElement IsSub worded (past_blanks p) m e × AreElements IsSub (worded || is_word e) m q es
 
 -- ---- what they are together
 
