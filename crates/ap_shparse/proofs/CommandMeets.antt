@@ -9,7 +9,7 @@ use Rattle.ap_shparse.specs.Places.{Place, args, at_text, waits}
 use Rattle.ap_shparse.specs.Words.{assignment, begins_word, is_assignment, plain_word}
 use Rattle.ap_shparse.specs.Redirects.{is_angle, next_operator, number, redirects, target_of}
 use Rattle.ap_shparse.specs.Commands.{alone, assigned, called, calls_at, element, elements, ends_command, is_empty, is_here, is_nil, is_reserved, next_word, no_elements, no_substitution, past_blanks, redirection, redirection_of, simple, substitution, targeted, with_args, with_redirection, with_word}
-use Rattle.ap_shparse.specs.LineRules.{moved}
+use Rattle.ap_shparse.specs.LineRules.{IsKeyword}
 use Rattle.ap_shparse.specs.PieceRules.{TextRule}
 use Rattle.ap_shparse.specs.WordRules.{IsAssignment, IsWord}
 use Rattle.ap_shparse.specs.CommandRules as rule
@@ -25,11 +25,11 @@ use Rattle.ap_shparse.specs.declared.tree.Redirection.{Redirection}
 use Rattle.ap_shparse.specs.declared.tree.Simple.{Simple}
 use Rattle.ap_shparse.specs.declared.tree.Word.{Word}
 use Rattle.ap_shparse.specs.declared.tree.Word.TheVariants as word
-use Rattle.ap_shparse.proofs.Keeps.{both_of, inner, left_of, right_of}
+use Rattle.ap_shparse.proofs.Keeps.{both_of, left_of, right_of}
 use Rattle.ap_shparse.proofs.KeptWords.{begins_inside}
 use Rattle.ap_shparse.proofs.GapLemmas.{after_short}
-use Rattle.ap_shparse.proofs.LineMeets.{Meets, past_short}
-use Rattle.ap_shparse.proofs.PieceMeets.{TMeets, expected, or_false, or_true, same_byte}
+use Rattle.ap_shparse.proofs.LineMeets.{Meets, keyword_short, none_past, past_keyword, past_none, past_sound}
+use Rattle.ap_shparse.proofs.PieceMeets.{TMeets, expected, or_false, or_true}
 use Rattle.ap_shparse.proofs.WordMeets.{assignment_meets, looks_so, word_meets}
 use Rattle.ap_shparse.proofs.RedirectMeets.{redirection_begins, redirection_short, redirection_sound, redirection_whole}
 
@@ -39,14 +39,6 @@ use Rattle.ap_shparse.proofs.RedirectMeets.{redirection_begins, redirection_shor
 abbrev BeginsWord : Bool → Place → Bool → Type 0
 BeginsWord worded p assigning = (redirects p.text ≡ false) × ((not worded && is_assignment p.text) ≡ assigning)
 
-first_byte : (c : ℕ) (ks t u : Text) → past (c ∷ ks) t ≡ Some u → (v : Text) × (t ≡ c ∷ v)
-first_byte c ks [] u e = cc
-first_byte c ks (d ∷ t) u e = by_byte (d == c) refl e
-  where
-    by_byte : (v : Bool) → (d == c) ≡ v → (if v then past ks t else None) ≡ Some u → (w : Text) × (d ∷ t ≡ c ∷ w)
-    by_byte true is e = (t, ap (λ y. y ∷ t) (same_byte d c is))
-    by_byte false is e = cc
-
 quote_begins : (t : Text) → (redirects (34 ∷ t) ≡ false) × (is_assignment (34 ∷ t) ≡ false) × (ends_command (34 ∷ t) ≡ false)
 unfolding redirects is_assignment ends_word has
 quote_begins t = (refl, refl, refl)
@@ -55,18 +47,11 @@ and_false : (v : Bool) → v && false ≡ false
 and_false true = refl
 and_false false = refl
 
-args_text : (p q : Place) → moved p (past args p.text) ≡ Some q → (v : Text) × (p.text ≡ 34 ∷ v)
-args_text p q x = by_args (past args p.text) refl x
-  where
-    by_args : (o : Option Text) → past args p.text ≡ o → moved p o ≡ Some q → (v : Text) × (p.text ≡ 34 ∷ v)
-    by_args None is m = cc
-    by_args (Some t) is m = first_byte 34 (36 ∷ 64 ∷ 34 ∷ []) p.text t is
-
-args_begin : (worded : Bool) (p q : Place) → moved p (past args p.text) ≡ Some q → BeginsWord worded p false
+args_begin : (worded : Bool) (p q : Place) → IsKeyword args p q → BeginsWord worded p false
 args_begin worded p q x =
-    let t = args_text p q x in
-    let b = quote_begins t.0 in
-    (ap redirects t.1 ∙ b.0, ap (λ y. not worded && is_assignment y) t.1 ∙ ap (λ y. not worded && y) b.1 ∙ and_false (not worded))
+    let t = x.1.0 in
+    let b = quote_begins (36 ∷ 64 ∷ 34 ∷ x.0) in
+    (ap redirects t ∙ b.0, ap (λ y. not worded && is_assignment y) t ∙ ap (λ y. not worded && y) b.1 ∙ and_false (not worded))
 
 letter_redirects : (c : ℕ) (t : Text) → is_letter c ≡ true → redirects (c ∷ t) ≡ false
 unfolding redirects has
@@ -104,15 +89,15 @@ no_hash [] e = cc
 no_hash (c ∷ t) e = let h : (c == 35) ≡ false = grind (arith, nat_tests) in ap (λ v. is_some (if v then Some t else None)) h
 
 word_goes : (IsSub : TextRule Simple) (t u : Text) (w : Word) → IsWord IsSub t u w → ends_command t ≡ false
-word_goes IsSub t u w (inl x) = let f = first_byte 91 [] t u x.0 in ap ends_command f.1 ∙ (lone_goes f.0).0
-word_goes IsSub t u w (inr (inl x)) = let f = first_byte 33 (61 ∷ []) t u x.0 in ap ends_command f.1 ∙ (lone_goes f.0).1
+word_goes IsSub t u w (inl x) = ap ends_command x.0.0 ∙ (lone_goes u).0
+word_goes IsSub t u w (inr (inl x)) = ap ends_command x.0.0 ∙ (lone_goes (61 ∷ u)).1
 word_goes IsSub t u w (inr (inr x)) = inside_goes t (begins_inside t x.begins) (no_hash t x.begins)
 
 -- where an element begins, the command goes on
 element_goes : (IsSub : TextRule Simple) (worded : Bool) (p q : Place) (x : Element) → IsElement IsSub worded p q x → ends_command p.text ≡ false
 element_goes IsSub worded p q (rule.assigns a) x = named_goes p.text x.2.is_name.begins
 element_goes IsSub worded p q (rule.plain c w) x = word_goes IsSub p.text x.0.0 w x.0.4
-element_goes IsSub worded p q rule.arguments x = let t = args_text p q x in ap ends_command t.1 ∙ (quote_begins t.0).2
+element_goes IsSub worded p q rule.arguments x = ap ends_command x.1.0 ∙ (quote_begins (36 ∷ 64 ∷ 34 ∷ x.0)).2
 element_goes IsSub worded p q (rule.redirected o r) x = ap (λ v. not v && (ends_word p.text || begins_with 35 p.text)) (redirection_begins IsSub o p q r x)
 
 -- ---- what is found with an element
@@ -178,14 +163,14 @@ worded_sound sub IsSub k worded e p q f b x = by_args (past args p.text) refl x
         let w = both_of (plain_word sub p.text) (λ y t. Some (with_word e (calls_at p.text) y, at_text p t)) (f, q) x in
         record {
           one = rule.plain (calls_at p.text) w.first;
-          is_one = ((w.left, b.0, b.1, is, (word_meets sub IsSub k).sound p.text w.left w.first w.is_first, sym (right_of (with_word e (calls_at p.text) w.first) f (at_text p w.left) q w.is_second)), refl);
+          is_one = ((w.left, b.0, b.1, none_past args p.text is, (word_meets sub IsSub k).sound p.text w.left w.first w.is_first, sym (right_of (with_word e (calls_at p.text) w.first) f (at_text p w.left) q w.is_second)), refl);
           is_first = tt;
           value = sym (left_of (with_word e (calls_at p.text) w.first) f (at_text p w.left) q w.is_second);
         }
     by_args (Some t) is x =
         record {
           one = rule.arguments;
-          is_one = ap (moved p) is ∙ ap (λ y. Some y) (right_of (with_args e) f (at_text p t) q x);
+          is_one = (t, past_sound args p.text t is, sym (right_of (with_args e) f (at_text p t) q x));
           is_first = tt;
           value = sym (left_of (with_args e) f (at_text p t) q x);
         }
@@ -229,15 +214,14 @@ element_whole sub IsSub k worded e s p q (rule.assigns a) x h =
     begun sub worded e s p true (assigned_begins IsSub p.text x.0 a x.2, ap₂ (λ y z. not y && z) x.1 (looks_so IsSub p.text x.0 a x.2))
     ∙ ap (λ o. and_then o (λ b t. Some (with_element e (rule.assigns b), at_text p t))) ((assignment_meets sub IsSub k).whole p.text x.0 a x.2)
     ∙ ap (λ y. Some (with_element e (rule.assigns a), y)) (sym x.3)
-element_whole sub IsSub k worded e s p q rule.arguments x h = begun sub worded e s p false (args_begin worded p q x) ∙ by_args (past args p.text) x
-  where
-    by_args : (o : Option Text) → moved p o ≡ Some q → if_eaten o (found_args e p) (found_word sub e p) ≡ Some (with_args e, q)
-    by_args None m = cc
-    by_args (Some t) m = ap (λ y. Some (with_args e, y)) (inner (at_text p t) q m)
+element_whole sub IsSub k worded e s p q rule.arguments x h =
+    begun sub worded e s p false (args_begin worded p q x)
+    ∙ ap (λ o. if_eaten o (found_args e p) (found_word sub e p)) (past_keyword args p q x)
+    ∙ ap (λ y. Some (with_args e, y)) (sym x.2)
 element_whole sub IsSub k worded e s p q (rule.plain c w) x h =
     let i = x.0 in
     begun sub worded e s p false (i.1, i.2)
-    ∙ ap (λ o. if_eaten o (found_args e p) (found_word sub e p)) i.3
+    ∙ ap (λ o. if_eaten o (found_args e p) (found_word sub e p)) (past_none args p.text i.3)
     ∙ ap (λ o. and_then o (λ y t. Some (with_word e (calls_at p.text) y, at_text p t))) ((word_meets sub IsSub k).whole p.text i.0 w i.4)
     ∙ ap₂ (λ y z. Some (with_word e y w, z)) (sym x.1) (sym i.5)
 element_whole sub IsSub k worded e s p q (rule.redirected o r) x h =
@@ -251,11 +235,7 @@ element_whole sub IsSub k worded e s p q (rule.redirected o r) x h =
 
 element_short : (sub : Text → Outcome Text Simple) (IsSub : TextRule Simple) → TMeets 0 sub IsSub → (worded : Bool) (p q : Place) (x : Element) → IsElement IsSub worded p q x → 1 + length q.text ≤ length p.text
 element_short sub IsSub k worded p q (rule.assigns a) x = omega (arith, (assignment_meets sub IsSub k).short p.text x.0 a x.2, ap (λ y. length y.text) x.3)
-element_short sub IsSub k worded p q rule.arguments x = by_args (past args p.text) refl x
-  where
-    by_args : (o : Option Text) → past args p.text ≡ o → moved p o ≡ Some q → 1 + length q.text ≤ length p.text
-    by_args None is m = cc
-    by_args (Some t) is m = omega (arith, past_short args p.text t is, ap (λ y. length y.text) (inner (at_text p t) q m))
+element_short sub IsSub k worded p q rule.arguments x = omega (arith, keyword_short args p q x)
 element_short sub IsSub k worded p q (rule.plain c w) x = omega (arith, (word_meets sub IsSub k).short p.text x.0.0 w x.0.4, ap (λ y. length y.text) x.0.5)
 element_short sub IsSub k worded p q (rule.redirected o r) x = redirection_short sub IsSub k o p q r x
 

@@ -22,7 +22,7 @@ use Rattle.ap_shparse.proofs.OutsideLemmas.{items}
 use Rattle.ap_shparse.proofs.FrontLemmas.{front_step}
 use Rattle.ap_shparse.proofs.LongestLemmas.{AtItem, AtStop, opened, stop_or_item}
 use Rattle.ap_shparse.proofs.LineMeets.{lines_sound, lines_whole}
-use Rattle.ap_shparse.proofs.ListMeets.{ended_short, list_meets}
+use Rattle.ap_shparse.proofs.ListMeets.{end_sound, ended_at_end, ended_short, list_meets}
 use Rattle.ap_shparse.proofs.ScriptMeets.{at_text_end, items_meet, item_some}
 
 -- ---- what is read
@@ -58,7 +58,7 @@ one_before p q m t ts l e x =
         m,
         record {
           item = i.item_of;
-          is_ended = record { start = q; item_end = i.behind; are_lines = l; is_item = items_meet.sound q i.behind i.item_of i.is_item; is_end = i.is_end };
+          is_ended = record { start = q; item_end = i.behind; are_lines = l; is_item = items_meet.sound q i.behind i.item_of i.is_item; is_end = end_sound (past_gap i.behind) m i.is_end };
           uncut = uncut_bodies i.behind r.uncut;
           value = i.is_turn;
         },
@@ -105,7 +105,7 @@ item_read p m t x =
     let e = x.is_ended in
     ap (λ o. and_then o closing) (items_meet.whole e.start e.item_end x.item e.is_item)
     ∙ ap (λ v. if v then None else and_then (ended (past_gap e.item_end)) (λ _. pure (turn_of x.item (waits e.item_end)))) x.uncut
-    ∙ ap (λ o. and_then (eaten o) (λ _. pure (turn_of x.item (waits e.item_end)))) e.is_end
+    ∙ ap (λ o. and_then (eaten o) (λ _. pure (turn_of x.item (waits e.item_end)))) (ended_at_end (IsList 64) p m x.item e)
     ∙ ap (λ y. Some (y, m)) (sym x.value)
 
 item_short : (p m : Place) (t : Turn) → IsWholeItem p m t → 2 + length m.text ≤ length p.text
@@ -128,7 +128,7 @@ front_read (t ∷ us) (suc n) ts p r q c a l e le =
     front_step items (suc n) ts p (Some i.start) c (lines_whole p i.start i.are_lines)
     ∙ ap (λ v. if v then at_stop ts i.start else with_item (front_from items n) ts (whole_item items i.start)) (item_some i.start i.item_end x.item i.is_item)
     ∙ ap (with_item (front_from items n) ts) (item_read p a.0 t x)
-    ∙ front_read us n (ts ++ t ∷ []) a.0 r q (end_uncut (past_gap i.item_end) a.0 i.is_end x.uncut) a.2 l e (omega (arith, le, item_short p a.0 t x))
+    ∙ front_read us n (ts ++ t ∷ []) a.0 r q (end_uncut (past_gap i.item_end) a.0 (ended_at_end (IsList 64) p a.0 x.item i) x.uncut) a.2 l e (omega (arith, le, item_short p a.0 t x))
     ∙ ap (λ y. Some y) (append_assoc ts (t ∷ []) us)
 
 pub fronts_obey : (n : Nul) (a : Text) (ts : List Turn) → front (seen n a) ≡ Some ts → IsWholeFront n a ts

@@ -1,20 +1,21 @@
 -- The here-documents that are read are those that the rules have.
-use Rattle.std.proofs.Common.{◌≡◌, ◌∙◌, ◌≤◌, ◌+◌, ℕ, zero, suc, List, [], ◌∷◌, ◌++◌, inl, inr, refl, sym, ap, ap₂, subst, Bool, true, false, if◌then◌else◌, ◌&&◌, ◌==◌, length, arith, length-append, append-nil, append_assoc}
+use Rattle.std.proofs.Common.{◌≡◌, ◌∙◌, ◌≤◌, ◌+◌, ℕ, zero, suc, List, [], ◌∷◌, ◌++◌, inl, inr, refl, sym, ap, ap₂, subst, Bool, true, false, if◌then◌else◌, ◌&&◌, length, arith, length-append, append-nil, append_assoc}
 use Rattle.std.specs.Prelude.{Option, Some, None}
 use Rattle.std.specs.Str.{bytes_eq}
-use Rattle.std.proofs.lemmas.Bool.Decides.{nat_tests}
 use Rattle.std.proofs.lemmas.Slice.Eq.{bytes_eq-Decides}
 use Rattle.ap_shparse.specs.Bytes.{Text, after, begins_with, enders, ends_word, gap, is_among, past, run}
 use Rattle.ap_shparse.specs.Reads.{Outcome, and_then, if_eaten, pure}
 use Rattle.ap_shparse.specs.Pieces.{expect, pieces}
 use Rattle.ap_shparse.specs.Places.{Place, args, body, body_from, body_of, bracket, delimiter, here, here_at, is_delimiter, line, line_from, lone, or_line, token}
 use Rattle.ap_shparse.specs.PieceRules.{IsRun, TextRule}
-use Rattle.ap_shparse.specs.HereRules.{IsBody, IsDelimiter, IsHere, IsNewlineBehind, IsStart, IsToken, body_text}
+use Rattle.ap_shparse.specs.LineRules.{HasNo}
+use Rattle.ap_shparse.specs.HereRules.{IsBody, IsDelimiter, IsHere, IsLone, IsNewlineBehind, IsStart, IsToken, body_text}
 use Rattle.ap_shparse.specs.declared.class.Class.TheVariants.{Comment, Quoted}
 use Rattle.ap_shparse.specs.declared.tree.Simple.{Simple}
-use Rattle.ap_shparse.proofs.Keeps.{both_of, inner, left_of, right_of}
+use Rattle.ap_shparse.proofs.Keeps.{both_of, left_of, right_of}
 use Rattle.ap_shparse.proofs.GapLemmas.{gap_short}
-use Rattle.ap_shparse.proofs.LineMeets.{Meets, past_short}
+use Rattle.ap_shparse.proofs.LineMeets.{Meets, past_is, past_none, past_sound, whole_short}
+use Rattle.ap_shparse.proofs.KeptPieces.{never_some}
 use Rattle.ap_shparse.proofs.PieceMeets.{TMeets, after_of, eaten_or, expected, pieces_sound, pieces_take, pieces_whole, run_is, run_of, run_short}
 
 -- ---- tokens
@@ -25,6 +26,17 @@ by_word sub t = and_then (pieces sub t) (λ _. pure tt)
 abbrev by_ender : (Text → Outcome Text Simple) → ℕ → Text → Bool → Outcome Text (Unit {0})
 by_ender sub c t v = if v then Some (tt, t) else if_eaten (lone (c ∷ t)) (pure tt) (by_word sub (c ∷ t))
 
+lone_sound : (t u : Text) → lone t ≡ Some u → IsLone t u
+lone_sound t u e =
+    eaten_or (past bracket t) (λ v. Some v) (past args t) (Some u) e (λ v i x. inl (past_sound bracket t u (i ∙ x))) (λ _ x. inr (past_sound args t u x))
+
+lone_whole : (t u : Text) → IsLone t u → lone t ≡ Some u
+lone_whole t u (inl x) = ap (λ o. if_eaten o (λ v. Some v) (past args t)) (past_is bracket t u x)
+lone_whole t u (inr x) = ap (λ o. if_eaten o (λ v. Some v) (past args t)) (ap (past bracket) x.0) ∙ past_is args t u x
+
+lone_none : (t : Text) → lone t ≡ None → HasNo bracket t × HasNo args t
+lone_none t e = (λ u x. never_some (sym e ∙ lone_whole t u (inl x)), λ u x. never_some (sym e ∙ lone_whole t u (inr x)))
+
 token_sound : (sub : Text → Outcome Text Simple) (IsSub : TextRule Simple) → TMeets 0 sub IsSub → (t u : Text) (a : Unit {0}) → token sub t ≡ Some (a, u) → IsToken IsSub t u
 unfolding token ends_word
 token_sound sub IsSub k [] u a e = cc
@@ -34,42 +46,41 @@ token_sound sub IsSub k (c ∷ t) u a e = by_test (is_among c enders) refl e
     by_test true is e = inl (c, ap (λ y. c ∷ y) (right_of tt a t u e), is)
     by_test false is e =
         eaten_or (lone (c ∷ t)) (pure tt) (by_word sub (c ∷ t)) (Some (a, u)) e
-        (λ v i x. inr (inl (i ∙ ap (λ y. Some y) (right_of tt a v u x))))
+        (λ v i x. inr (inl (lone_sound (c ∷ t) u (i ∙ ap (λ y. Some y) (right_of tt a v u x)))))
         (λ n x.
         let w = both_of (pieces sub (c ∷ t)) (λ _. pure tt) (a, u) x in
         let r = pieces_sound sub IsSub k (c ∷ t) u w.first (w.is_first ∙ ap (λ y. Some (w.first, y)) (right_of tt a w.left u w.is_second)) in
-        inr (inr (r.pieces, is, n, r.are_pieces)))
+        inr (inr (r.pieces, is, (lone_none (c ∷ t) n).0, (lone_none (c ∷ t) n).1, r.are_pieces)))
 
-lone_inside : (t u : Text) → lone t ≡ Some u → ends_word t ≡ false
+lone_inside : (t u : Text) → IsLone t u → ends_word t ≡ false
 unfolding ends_word
-lone_inside [] u e = cc
-lone_inside (c ∷ t) u e = by_bracket (c == 91) refl (c == 34) refl e
-  where
-    by_bracket : (v : Bool) → (c == 91) ≡ v → (w : Bool) → (c == 34) ≡ w
-        → if_eaten {R = Option Text} (if v then past [] t else None) (λ x. Some x) (if w then past (36 ∷ 64 ∷ 34 ∷ []) t else None) ≡ Some u → is_among c enders ≡ false
-    by_bracket true is w iw e = grind (arith, nat_tests)
-    by_bracket false is true iw e = grind (arith, nat_tests)
-    by_bracket false is false iw e = cc
+lone_inside t u (inl x) = ap ends_word x.0
+lone_inside t u (inr x) = ap ends_word x.0
+
+no_lone : (u : Text) → IsLone [] u → ⊥
+no_lone u (inl x) = let e = x.0 in cc
+no_lone u (inr x) = let e = x.0 in cc
+
+none_lone : (t : Text) → HasNo bracket t → HasNo args t → lone t ≡ None
+none_lone t b a = ap (λ o. if_eaten o (λ v. Some v) (past args t)) (past_none bracket t b) ∙ past_none args t a
 
 token_whole : (sub : Text → Outcome Text Simple) (IsSub : TextRule Simple) → TMeets 0 sub IsSub → (t u : Text) → IsToken IsSub t u → token sub t ≡ Some (tt, u)
 unfolding token ends_word
 token_whole sub IsSub k t u (inl x) = ap (token sub) x.1 ∙ ap (by_ender sub x.0 u) x.2
-token_whole sub IsSub k [] u (inr (inl x)) = cc
-token_whole sub IsSub k (c ∷ t) u (inr (inl x)) = ap (by_ender sub c t) (lone_inside (c ∷ t) u x) ∙ ap (λ o. if_eaten o (pure tt) (by_word sub (c ∷ t))) x
+token_whole sub IsSub k [] u (inr (inl x)) = absurd (no_lone u x)
+token_whole sub IsSub k (c ∷ t) u (inr (inl x)) = ap (by_ender sub c t) (lone_inside (c ∷ t) u x) ∙ ap (λ o. if_eaten o (pure tt) (by_word sub (c ∷ t))) (lone_whole (c ∷ t) u x)
 token_whole sub IsSub k [] u (inr (inr x)) = let e = x.1 in cc
 token_whole sub IsSub k (c ∷ t) u (inr (inr x)) =
-    ap (by_ender sub c t) x.1 ∙ ap (λ o. if_eaten o (pure tt) (by_word sub (c ∷ t))) x.2 ∙ ap (λ o. and_then o (λ _. pure tt)) (pieces_whole sub IsSub k x.0 (c ∷ t) u x.3)
+    ap (by_ender sub c t) x.1 ∙ ap (λ o. if_eaten o (pure tt) (by_word sub (c ∷ t))) (none_lone (c ∷ t) x.2 x.3) ∙ ap (λ o. and_then o (λ _. pure tt)) (pieces_whole sub IsSub k x.0 (c ∷ t) u x.4)
 
-lone_short : (t u : Text) → lone t ≡ Some u → 1 + length u ≤ length t
-lone_short t u e =
-    eaten_or (past bracket t) (λ v. Some v) (past args t) (Some u) e
-    (λ v i x. omega (arith, past_short bracket t v i, ap length (inner v u x)))
-    (λ _ x. omega (arith, past_short args t u x))
+lone_short : (t u : Text) → IsLone t u → 1 + length u ≤ length t
+lone_short t u (inl x) = omega (arith, whole_short bracket t u x)
+lone_short t u (inr x) = omega (arith, whole_short args t u x)
 
 token_short : (sub : Text → Outcome Text Simple) (IsSub : TextRule Simple) → TMeets 0 sub IsSub → (t u : Text) → IsToken IsSub t u → 1 + length u ≤ length t
 token_short sub IsSub k t u (inl x) = omega (arith, ap length x.1)
 token_short sub IsSub k t u (inr (inl x)) = lone_short t u x
-token_short sub IsSub k t u (inr (inr x)) = pieces_take sub IsSub k x.0 t u x.1 x.3
+token_short sub IsSub k t u (inr (inr x)) = pieces_take sub IsSub k x.0 t u x.1 x.4
 
 -- ---- the next newline
 

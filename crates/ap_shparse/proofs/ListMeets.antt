@@ -8,8 +8,8 @@ use Rattle.ap_shparse.specs.Places.{Place, at_text, newlines, past_gap, past_new
 use Rattle.ap_shparse.specs.Commands.{is_keyword, is_left_out, is_loop, is_nil, is_reserved, past_blanks, sees, simple, substitution}
 use Rattle.ap_shparse.specs.Lists.{Lists, chain, choice, closes, command, ended, item_of, items, items_from, join, joined, joiner, keyword, list, next_item, others, others_by, otherwise, past_end, past_twice, simple_member}
 use Rattle.ap_shparse.specs.CommandRules.{IsSimple, IsSubstitution}
-use Rattle.ap_shparse.specs.LineRules.{IsKeyword, Rule, moved}
-use Rattle.ap_shparse.specs.ListRules.{AreItems, AreJoined, IsCommand, IsElse, IsEnded, IsIfMember, IsItem, IsJoined, IsList, IsOperator, IsSome}
+use Rattle.ap_shparse.specs.LineRules.{IsKeyword, Rule}
+use Rattle.ap_shparse.specs.ListRules.{AreItems, AreJoined, IsCommand, IsElse, IsEnded, IsIfMember, IsItem, IsItemEnd, IsJoined, IsList, IsOperator, IsSome, NoOperator, operator}
 use Rattle.ap_shparse.specs.declared.class.Class.TheVariants.{Blank}
 use Rattle.ap_shparse.specs.declared.elements.Called.{Called}
 use Rattle.ap_shparse.specs.declared.item.Item.{Item}
@@ -21,7 +21,9 @@ use Rattle.ap_shparse.proofs.Keeps.{both_of, inner, left_of, right_of}
 use Rattle.ap_shparse.proofs.ItemLemmas.{some_end, some_turn}
 use Rattle.ap_shparse.proofs.GapLemmas.{after_short, gap_short, newline_short}
 use Rattle.ap_shparse.proofs.CommandMeets.{simple_meets, substitution_meets}
-use Rattle.ap_shparse.proofs.LineMeets.{Meets, keyword_at, keyword_short, keyword_sound, keyword_whole, lines_shorter, lines_sound, lines_whole}
+use Rattle.ap_shparse.proofs.KeptPieces.{never_some}
+use Rattle.ap_shparse.proofs.PieceMeets.{byte_at}
+use Rattle.ap_shparse.proofs.LineMeets.{Meets, keyword_past, keyword_short, keyword_sound, keyword_whole, lines_shorter, lines_sound, lines_whole, newline_sound, newline_whole, none_past, past_keyword, past_none}
 
 pub simple_is : Meets 1 (simple substitution) (IsSimple IsSubstitution)
 simple_is = simple_meets substitution IsSubstitution substitution_meets
@@ -40,14 +42,13 @@ else_meets below IsBelow m = record { sound = sound; whole = whole; short = shor
     sound p q cs e = by_past (past (codes "else") p.text) refl e
       where
         by_past : (o : Option Text) → past (codes "else") p.text ≡ o → if_eaten o (λ t. below (at_text p t)) (Some ([], p)) ≡ Some (cs, q) → IsElse IsBelow p q cs
-        by_past None is e = inl (is, sym (right_of [] cs p q e), sym (left_of [] cs p q e))
-        by_past (Some t) is e = inr (at_text p t, ap (moved p) is, m.sound (at_text p t) q cs e)
+        by_past None is e = inl (none_past (codes "else") p.text is, sym (right_of [] cs p q e), sym (left_of [] cs p q e))
+        by_past (Some t) is e = inr (at_text p t, keyword_past (codes "else") p t is, m.sound (at_text p t) q cs e)
 
     whole : (p q : Place) (cs : List Chain) → IsElse IsBelow p q cs → otherwise below p ≡ Some (cs, q)
-    whole p q cs (inl x) = ap (λ o. if_eaten o (λ t. below (at_text p t)) (Some ([], p))) x.0 ∙ pair [] cs p q (sym x.2) (sym x.1)
+    whole p q cs (inl x) = ap (λ o. if_eaten o (λ t. below (at_text p t)) (Some ([], p))) (past_none (codes "else") p.text x.0) ∙ pair [] cs p q (sym x.2) (sym x.1)
     whole p q cs (inr x) =
-        let a = keyword_at (codes "else") p x.0 x.1 in
-        ap (λ o. if_eaten o (λ t. below (at_text p t)) (Some ([], p))) a.is_past ∙ ap below (sym a.is_place) ∙ m.whole x.0 q cs x.2
+        ap (λ o. if_eaten o (λ t. below (at_text p t)) (Some ([], p))) (past_keyword (codes "else") p x.0 x.1) ∙ ap below (sym x.1.2) ∙ m.whole x.0 q cs x.2
 
     short : (p q : Place) (cs : List Chain) → IsElse IsBelow p q cs → 0 + length q.text ≤ length p.text
     short p q cs (inl x) = omega (arith, ap (λ y. length y.text) x.1)
@@ -145,7 +146,7 @@ command_meets below IsBelow k = record { sound = sound; whole = whole; short = s
             let v = left_of (member_of w.first) m w.left q w.is_second in
             let l = right_of (member_of w.first) m w.left q w.is_second in
             inl (record { command = w.first; is_simple = simple_is.sound p q w.first (w.is_first ∙ ap (λ y. Some (w.first, y)) l); is_node = sym (ap (λ y. y.node) v); is_stops = sym (ap (λ y. y.stops) v) })
-        by_past (Some t) is e = inr (if_sound below IsBelow k p (at_text p t) q m (ap (moved p) is) e)
+        by_past (Some t) is e = inr (if_sound below IsBelow k p (at_text p t) q m (keyword_past (codes "if") p t is) e)
 
     whole : (p q : Place) (m : Member) → IsCommand IsBelow p q m → command below p ≡ Some (m, q)
     whole p q m (inl x) =
@@ -153,8 +154,8 @@ command_meets below IsBelow k = record { sound = sound; whole = whole; short = s
         ∙ ap (λ o. and_then o (λ c. pure (member_of c))) (simple_is.whole p q x.command x.is_simple)
         ∙ ap₂ (λ y z. Some (record { node = y; stops = z }, q)) (sym x.is_node) (sym x.is_stops)
     whole p q m (inr x) =
-        let a = keyword_at (codes "if") p x.is_if.if_end x.is_if.is_if in
-        ap (λ o. if_eaten o (λ t. choice below (at_text p t)) (simple_member p)) a.is_past ∙ ap (choice below) (sym a.is_place) ∙ if_whole below IsBelow k p q m x
+        let w = x.is_if.is_if in
+        ap (λ o. if_eaten o (λ t. choice below (at_text p t)) (simple_member p)) (past_keyword (codes "if") p x.is_if.if_end w) ∙ ap (choice below) (sym w.2) ∙ if_whole below IsBelow k p q m x
 
     short : (p q : Place) (m : Member) → IsCommand IsBelow p q m → 1 + length q.text ≤ length p.text
     short p q m (inl x) = simple_is.short p q x.command x.is_simple
@@ -162,34 +163,41 @@ command_meets below IsBelow k = record { sound = sound; whole = whole; short = s
 
 -- ---- AND-OR lists
 
-byte_short : (k : ℕ) (t u : Text) → past_byte k t ≡ Some u → 1 + length u ≤ length t
-byte_short k [] u e = cc
-byte_short k (c ∷ t) u e = by_byte (c == k) e
+twice_at : (k : ℕ) (t u : Text) → past_twice k t ≡ Some u → t ≡ k ∷ k ∷ u
+twice_at k t u e = by_byte (past_byte k t) refl e
   where
-    by_byte : (v : Bool) → (if v then Some t else None) ≡ Some u → 1 + length u ≤ length (c ∷ t)
-    by_byte true e = omega (arith, ap length (inner t u e))
-    by_byte false e = cc
-
-twice_short : (k : ℕ) (t u : Text) → past_twice k t ≡ Some u → 1 + length u ≤ length t
-twice_short k t u e = by_byte (past_byte k t) refl e
-  where
-    by_byte : (o : Option Text) → past_byte k t ≡ o → if_eaten o (past_byte k) None ≡ Some u → 1 + length u ≤ length t
+    by_byte : (o : Option Text) → past_byte k t ≡ o → if_eaten o (past_byte k) None ≡ Some u → t ≡ k ∷ k ∷ u
     by_byte None is e = cc
-    by_byte (Some v) is e = omega (arith, byte_short k t v is, byte_short k v u e)
+    by_byte (Some v) is e = byte_at k t v is ∙ ap (λ y. k ∷ y) (byte_at k v u e)
 
-joiner_short : (t u : Text) (or : Bool) → joiner t ≡ Some (or, u) → 1 + length u ≤ length t
-joiner_short t u or e = by_or (past_twice 124 t) refl e
+joiner_sound : (t u : Text) (or : Bool) → joiner t ≡ Some (or, u) → t ≡ operator or ++ u
+joiner_sound t u or e = by_or (past_twice 124 t) refl e
   where
-    by_and : (o : Option Text) → past_twice 38 t ≡ o → if_eaten {R = Outcome Text Bool} o (λ v. Some (false, v)) None ≡ Some (or, u) → 1 + length u ≤ length t
+    by_and : (o : Option Text) → past_twice 38 t ≡ o → if_eaten {R = Outcome Text Bool} o (λ v. Some (false, v)) None ≡ Some (or, u) → t ≡ operator or ++ u
     by_and None is e = cc
-    by_and (Some v) is e = omega (arith, twice_short 38 t v is, ap length (right_of false or v u e))
+    by_and (Some v) is e = subst (λ y. t ≡ operator y ++ u) (left_of false or v u e) (twice_at 38 t v is ∙ ap (λ y. 38 ∷ 38 ∷ y) (right_of false or v u e))
 
-    by_or : (o : Option Text) → past_twice 124 t ≡ o → if_eaten {R = Outcome Text Bool} o (λ v. Some (true, v)) (if_eaten (past_twice 38 t) (λ v. Some (false, v)) None) ≡ Some (or, u) → 1 + length u ≤ length t
+    by_or : (o : Option Text) → past_twice 124 t ≡ o → if_eaten {R = Outcome Text Bool} o (λ v. Some (true, v)) (if_eaten (past_twice 38 t) (λ v. Some (false, v)) None) ≡ Some (or, u) → t ≡ operator or ++ u
     by_or None is e = by_and (past_twice 38 t) refl e
-    by_or (Some v) is e = omega (arith, twice_short 124 t v is, ap length (right_of true or v u e))
+    by_or (Some v) is e = subst (λ y. t ≡ operator y ++ u) (left_of true or v u e) (twice_at 124 t v is ∙ ap (λ y. 124 ∷ 124 ∷ y) (right_of true or v u e))
+
+joiner_is : (or : Bool) (u : Text) → joiner (operator or ++ u) ≡ Some (or, u)
+joiner_is true u = refl
+joiner_is false u = refl
+
+joiner_none : (t : Text) → joiner t ≡ None → NoOperator t
+joiner_none t e = λ or u x. never_some (sym e ∙ ap joiner x ∙ joiner_is or u)
+
+none_joiner : (t : Text) → NoOperator t → joiner t ≡ None
+none_joiner t n = by_joiner (joiner t) refl
+  where
+    by_joiner : (o : Outcome Text Bool) → joiner t ≡ o → o ≡ None
+    by_joiner None is = refl
+    by_joiner (Some o) is = absurd (n o.0 o.1 (joiner_sound t o.1 o.0 is))
 
 operator_short : (p q : Place) (or : Bool) → IsOperator p q or → 1 + length q.text ≤ length p.text
-operator_short p q or o = omega (arith, joiner_short (past_blanks p).text o.0 or o.1, ap (λ y. length y.text) o.2, after_short Blank p.text)
+operator_short p q true o = omega (arith, ap length o.1, ap (λ y. length y.text) o.2, after_short Blank p.text)
+operator_short p q false o = omega (arith, ap length o.1, ap (λ y. length y.text) o.2, after_short Blank p.text)
 
 abbrev with_joined : List Joined → Bool → Member → List Joined
 with_joined found or m = found ++ joined or m.node ∷ []
@@ -255,10 +263,10 @@ others_sound below IsBelow k (suc n) found p q js e = by_joiner (joiner (past_bl
         → ((f : List Joined) (y : Place) → others below n f y ≡ Some (js, q) → Behind (AreJoined IsBelow y q) f js) → Behind (AreJoined IsBelow p q) found js
     by_joiner None is e rec =
         let l = right_of found js (past_blanks p) q e in
-        record { more = []; are = (sym l, ap (λ y. joiner y.text) (sym l) ∙ is); value = sym (left_of found js (past_blanks p) q e) ∙ sym (append-nil found) }
+        record { more = []; are = (sym l, joiner_none q.text (ap (λ y. joiner y.text) (sym l) ∙ is)); value = sym (left_of found js (past_blanks p) q e) ∙ sym (append-nil found) }
     by_joiner (Some o) is e rec =
         let w = both_of (join below found o.0 (at_text (past_blanks p) o.1)) (others below n) (js, q) e in
-        let j = join_sound below IsBelow k found o.0 p (at_text p o.1) w.left w.first (o.1, is, refl) w.is_first in
+        let j = join_sound below IsBelow k found o.0 p (at_text p o.1) w.left w.first (o.1, joiner_sound (past_blanks p).text o.1 o.0 is, refl) w.is_first in
         let m = rec w.first w.left w.is_second in
         record { more = j.one ∷ m.more; are = (w.left, j.is_one, m.are); value = m.value ∙ ap (λ y. y ++ m.more) j.value ∙ append_assoc found (j.one ∷ []) m.more }
 
@@ -267,11 +275,11 @@ others_whole : (below : Lists) (IsBelow : Rule (List Chain)) → Meets 0 below I
 unfolding others
 others_whole below IsBelow k js zero found p q le a = absurd (omega (arith, le))
 others_whole below IsBelow k [] (suc n) found p q le a =
-    ap (others_by (λ or r. and_then (join below found or r) (others below n)) found (past_blanks p)) (ap (λ y. joiner y.text) (sym a.0) ∙ a.1)
+    ap (others_by (λ or r. and_then (join below found or r) (others below n)) found (past_blanks p)) (ap (λ y. joiner y.text) (sym a.0) ∙ none_joiner q.text a.1)
     ∙ pair found (found ++ []) (past_blanks p) q (sym (append-nil found)) (sym a.0)
 others_whole below IsBelow k (j ∷ js) (suc n) found p q le a =
     let i = a.1 in
-    ap (others_by (λ or r. and_then (join below found or r) (others below n)) found (past_blanks p)) i.is_operator.1
+    ap (others_by (λ or r. and_then (join below found or r) (others below n)) found (past_blanks p)) (ap joiner i.is_operator.1 ∙ joiner_is i.or i.is_operator.0)
     ∙ ap (λ y. and_then (join below found i.or y) (others below n)) (sym i.is_operator.2)
     ∙ ap (λ y. and_then y (others below n)) (join_whole below IsBelow k found p a.0 j i)
     ∙ others_whole below IsBelow k js n (found ++ j ∷ []) a.0 q (omega (arith, le, join_short below IsBelow k p a.0 j i)) a.2
@@ -316,12 +324,23 @@ item_meets below IsBelow k = record { sound = sound; whole = whole; short = shor
 
 -- ---- lists
 
-pub end_short : (p q : Place) → past_end p ≡ Some q → 1 + length q.text ≤ length p.text
-end_short p q e = by_semi (past_byte 59 p.text) refl e
+pub end_sound : (p q : Place) → past_end p ≡ Some q → IsItemEnd p q
+end_sound p q e = by_semi (past_byte 59 p.text) refl e
   where
-    by_semi : (o : Option Text) → past_byte 59 p.text ≡ o → if_eaten o (λ t. Some (at_text p t)) (past_newline p) ≡ Some q → 1 + length q.text ≤ length p.text
-    by_semi None is e = omega (arith, newline_short p q e)
-    by_semi (Some t) is e = omega (arith, byte_short 59 p.text t is, ap (λ y. length y.text) (inner (at_text p t) q e))
+    by_semi : (o : Option Text) → past_byte 59 p.text ≡ o → if_eaten o (λ t. Some (at_text p t)) (past_newline p) ≡ Some q → IsItemEnd p q
+    by_semi None is e = inl (newline_sound p q e)
+    by_semi (Some t) is e = inr (t, byte_at 59 p.text t is, sym (inner (at_text p t) q e))
+
+end_whole : (p q : Place) → IsItemEnd p q → past_end p ≡ Some q
+end_whole p q (inl x) = ap (λ t. if_eaten (past_byte 59 t) (λ u. Some (at_text p u)) (past_newline p)) x.1 ∙ newline_whole p q x
+end_whole p q (inr x) = ap (λ t. if_eaten (past_byte 59 t) (λ u. Some (at_text p u)) (past_newline p)) x.1 ∙ ap (λ y. Some y) (sym x.2)
+
+pub end_short : (p q : Place) → IsItemEnd p q → 1 + length q.text ≤ length p.text
+end_short p q (inl x) = omega (arith, newline_short p q (newline_whole p q x))
+end_short p q (inr x) = omega (arith, ap length x.1, ap (λ y. length y.text) x.2)
+
+pub ended_at_end : (IsBelow : Rule (List Chain)) (p q : Place) (i : Item) → (x : IsEnded IsBelow p q i) → past_end (past_gap x.item_end) ≡ Some q
+ended_at_end IsBelow p q i x = end_whole (past_gap x.item_end) q x.is_end
 
 pub ended_short : (below : Lists) (IsBelow : Rule (List Chain)) → Meets 0 below IsBelow
     → (p q : Place) (i : Item) → IsEnded IsBelow p q i → 2 + length q.text ≤ length p.text
@@ -365,7 +384,7 @@ item_begins below IsBelow k p q i x = by_command x.is_first
   where
     by_command : IsCommand IsBelow p x.first_end x.first → closes p.text ≡ false
     by_command (inl c) = not_reserved p.text c.is_simple.not_reserved
-    by_command (inr c) = let a = keyword_at (codes "if") p c.is_if.if_end c.is_if.is_if in if_closes p.text a.rest a.is_past
+    by_command (inr c) = if_closes p.text c.is_if.is_if.0 (past_keyword (codes "if") p c.is_if.if_end c.is_if.is_if)
 
 abbrev with_chain : List Chain → Item → Place → Outcome Place (List Chain)
 with_chain found c q = and_then (ended (past_gap q)) (λ _. pure (found ++ c.chain ∷ []))
@@ -391,7 +410,7 @@ next_sound below IsBelow k found p r q cs l e =
         item_end = w.left;
         are_lines = lines_sound p r l;
         is_item = (item_meets below IsBelow k).sound r w.left w.first w.is_first;
-        is_end = some_end o q cs (found ++ w.first.chain ∷ []) w.is_second;
+        is_end = end_sound (past_gap w.left) q (some_end o q cs (found ++ w.first.chain ∷ []) w.is_second);
       };
       value = some_turn o q cs (found ++ w.first.chain ∷ []) w.is_second;
     }
@@ -401,7 +420,7 @@ next_whole : (below : Lists) (IsBelow : Rule (List Chain)) → Meets 0 below IsB
 unfolding next_item
 next_whole below IsBelow k found p q i x =
     ap (λ o. and_then o (with_chain found)) ((item_meets below IsBelow k).whole x.start x.item_end i x.is_item)
-    ∙ ap (λ o. and_then (eaten o) (λ _. pure (found ++ i.chain ∷ []))) x.is_end
+    ∙ ap (λ o. and_then (eaten o) (λ _. pure (found ++ i.chain ∷ []))) (ended_at_end IsBelow p q i x)
 
 items_sound : (below : Lists) (IsBelow : Rule (List Chain)) → Meets 0 below IsBelow
     → (n : ℕ) (found : List Chain) (p q : Place) (cs : List Chain) → items_from below n found p ≡ Some (cs, q) → Behind (AreItems IsBelow p q) found cs

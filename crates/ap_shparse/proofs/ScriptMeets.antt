@@ -21,7 +21,7 @@ use Rattle.ap_shparse.proofs.ItemLemmas.{nil_end, nil_turn, or_turn}
 use Rattle.ap_shparse.proofs.OutsideLemmas.{items}
 use Rattle.ap_shparse.proofs.JoinLemmas.{no_ok, ok_of, turn_end}
 use Rattle.ap_shparse.proofs.LineMeets.{Meets, lines_shorter, lines_sound, lines_whole}
-use Rattle.ap_shparse.proofs.ListMeets.{end_short, ended_short, item_meets, list_meets}
+use Rattle.ap_shparse.proofs.ListMeets.{end_short, end_sound, ended_at_end, ended_short, item_meets, list_meets}
 
 abbrev pub Item64 : Rule Item
 Item64 = IsItem (IsList 64)
@@ -64,7 +64,7 @@ some_end i p = and_then (ended p) (λ _ q. Some (turn_of i (waits p), q))
 outer_of : (p r m q : Place) (i : Item) → AreLines p r → items r ≡ Some (i, m) → past_end (past_gap m) ≡ Some q
     → (v : Bool) → v ≡ (i.stops && not (waits m)) → IsOuter p q i.chain v
 outer_of p r m q i l e w v is =
-    record { item = i; is_ended = record { start = r; item_end = m; are_lines = l; is_item = (items_meet).sound r m i e; is_end = w }; value = refl; is_stop = is }
+    record { item = i; is_ended = record { start = r; item_end = m; are_lines = l; is_item = (items_meet).sound r m i e; is_end = end_sound (past_gap m) q w }; value = refl; is_stop = is }
 
 turn_sound : (p r q : Place) (t : Turn) → AreLines p r → turn items r ≡ Some (t, q) → TurnAt p r t q
 unfolding turn
@@ -117,7 +117,7 @@ turn_outer p q c v o =
     ap (λ b. if b then nil_turn x.start else and_then (items x.start) (λ i z. at_end i (past_gap z))) (item_some x.start x.item_end o.item x.is_item)
     ∙ ap (λ y. and_then y (λ i z. at_end i (past_gap z))) ((items_meet).whole x.start x.item_end o.item x.is_item)
     ∙ ap (λ b. if b then nil_end o.item (past_gap x.item_end) else some_end o.item (past_gap x.item_end)) (not_nil (past_gap x.item_end).text (omega (arith, end_short (past_gap x.item_end) q x.is_end)))
-    ∙ ap (λ y. and_then (eaten y) (λ _ z. Some (turn_of o.item (waits x.item_end), z))) x.is_end
+    ∙ ap (λ y. and_then (eaten y) (λ _ z. Some (turn_of o.item (waits x.item_end), z))) (ended_at_end (IsList 64) p q o.item x)
     ∙ ap₂ (λ b y. Some ((if b then turned.Last y else turned.Next y), q)) (sym o.is_stop) (sym o.value)
 
 turn_open : (r m : Place) (i : Item) → Item64 r m i → IsEnd (past_gap m) → turn items r ≡ Some (turned.Last i.chain, past_gap m)

@@ -1,7 +1,6 @@
 -- The words and assignments that are read are those that the rules have.
 use Rattle.std.proofs.Common.{◌≡◌, ◌∙◌, ◌≤◌, ◌+◌, ℕ, [], ◌∷◌, inl, inr, refl, sym, ap, ap₂, Bool, true, false, if◌then◌else◌, ◌&&◌, ◌==◌, length, arith}
 use Rattle.std.specs.Prelude.{Some, None}
-use Rattle.std.proofs.lemmas.Bool.Decides.{nat_tests}
 use Rattle.ap_shparse.specs.Bytes.{Text, begins_with, is_plain, past}
 use Rattle.ap_shparse.specs.Reads.{Outcome, and_then, if_eaten, pure}
 use Rattle.ap_shparse.specs.Pieces.{expect, name, none_found, parts_of, pieces}
@@ -17,7 +16,7 @@ use Rattle.ap_shparse.specs.declared.tree.Word.{Word}
 use Rattle.ap_shparse.specs.declared.tree.Word.TheVariants as word
 use Rattle.ap_shparse.proofs.Keeps.{both_of, left_of, right_of}
 use Rattle.ap_shparse.proofs.KeptWords.{begins_inside}
-use Rattle.ap_shparse.proofs.LineMeets.{past_short}
+use Rattle.ap_shparse.proofs.LineMeets.{past_is, past_sound, whole_short}
 use Rattle.ap_shparse.proofs.PieceMeets.{TMeets, after_of, all_parts, any_expansion, any_tilde, eaten_or, expect_is, expected, name_meets, pieces_short, pieces_sound, pieces_take, pieces_whole, same_byte, with_pieces}
 
 abbrev word_of : Found → Word
@@ -82,32 +81,24 @@ word_meets sub IsSub k = record { sound = sound; whole = whole; short = short }
     sound : (t u : Text) (w : Word) → plain_word sub t ≡ Some (w, u) → IsWord IsSub t u w
     sound t u w e =
         eaten_or (past bracket t) (pure (text_word bracket)) (if_eaten (past differs t) (pure (text_word differs)) (pieced sub t)) (Some (w, u)) e
-        (λ v i x. inl (i ∙ ap (λ y. Some y) (right_of (text_word bracket) w v u x), sym (left_of (text_word bracket) w v u x)))
+        (λ v i x. inl (past_sound bracket t u (i ∙ ap (λ y. Some y) (right_of (text_word bracket) w v u x)), sym (left_of (text_word bracket) w v u x)))
         (λ _ e. eaten_or (past differs t) (pure (text_word differs)) (pieced sub t) (Some (w, u)) e
-        (λ v i x. inr (inl (i ∙ ap (λ y. Some y) (right_of (text_word differs) w v u x), sym (left_of (text_word differs) w v u x))))
+        (λ v i x. inr (inl (past_sound differs t u (i ∙ ap (λ y. Some y) (right_of (text_word differs) w v u x)), sym (left_of (text_word differs) w v u x))))
         (λ _ e. inr (inr (pieced_sound sub IsSub k t u w e))))
 
-    no_bracket : (t u : Text) → past differs t ≡ Some u → past bracket t ≡ None
-    no_bracket [] u e = cc
-    no_bracket (c ∷ t) u e = by_byte (c == 33) refl e
-      where
-        by_byte : (v : Bool) → (c == 33) ≡ v → (if v then past (61 ∷ []) t else None) ≡ Some u → past bracket (c ∷ t) ≡ None
-        by_byte true is e = let s : (c == 91) ≡ false = grind (arith, nat_tests) in ap (λ v. if v then past [] t else None) s
-        by_byte false is e = cc
-
     whole : (t u : Text) (w : Word) → IsWord IsSub t u w → plain_word sub t ≡ Some (w, u)
-    whole t u w (inl x) = ap (λ o. if_eaten o (pure (text_word bracket)) (if_eaten (past differs t) (pure (text_word differs)) (pieced sub t))) x.0 ∙ ap (λ y. Some (y, u)) (sym x.1)
+    whole t u w (inl x) = ap (λ o. if_eaten o (pure (text_word bracket)) (if_eaten (past differs t) (pure (text_word differs)) (pieced sub t))) (past_is bracket t u x.0) ∙ ap (λ y. Some (y, u)) (sym x.1)
     whole t u w (inr (inl x)) =
-        ap (λ o. if_eaten o (pure (text_word bracket)) (if_eaten (past differs t) (pure (text_word differs)) (pieced sub t))) (no_bracket t u x.0)
-        ∙ ap (λ o. if_eaten o (pure (text_word differs)) (pieced sub t)) x.0 ∙ ap (λ y. Some (y, u)) (sym x.1)
+        ap (λ o. if_eaten o (pure (text_word bracket)) (if_eaten (past differs t) (pure (text_word differs)) (pieced sub t))) (ap (past bracket) x.0.0)
+        ∙ ap (λ o. if_eaten o (pure (text_word differs)) (pieced sub t)) (past_is differs t u x.0) ∙ ap (λ y. Some (y, u)) (sym x.1)
     whole t u w (inr (inr x)) =
         ap (λ o. if_eaten o (pure (text_word bracket)) (if_eaten (past differs t) (pure (text_word differs)) (pieced sub t))) (no_first 91 [] t x.begins not_words.0)
         ∙ ap (λ o. if_eaten o (pure (text_word differs)) (pieced sub t)) (no_first 33 (61 ∷ []) t x.begins not_words.1)
         ∙ pieced_whole sub IsSub k t u w x
 
     short : (t u : Text) (w : Word) → IsWord IsSub t u w → 1 + length u ≤ length t
-    short t u w (inl x) = omega (arith, past_short bracket t u x.0)
-    short t u w (inr (inl x)) = omega (arith, past_short differs t u x.0)
+    short t u w (inl x) = omega (arith, whole_short bracket t u x.0)
+    short t u w (inr (inl x)) = omega (arith, whole_short differs t u x.0)
     short t u w (inr (inr x)) = pieces_take sub IsSub k x.pieces t u (begins_inside t x.begins) x.are_pieces
 
 -- ---- assignments

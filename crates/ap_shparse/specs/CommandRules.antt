@@ -1,11 +1,11 @@
 -- The rules of the shell grammar for simple commands and command substitution (POSIX.1, 2.9.1 and 2.6.3).
-use Rattle.std.specs.Prelude.{◌≡◌, List, [], ◌∷◌, Some, None, Bool, true, false, ◌||◌, ◌&&◌, not, if◌then◌else◌}
-use Rattle.ap_shparse.specs.Bytes.{Text, after, past}
+use Rattle.std.specs.Prelude.{◌≡◌, List, [], ◌∷◌, None, Bool, true, false, ◌||◌, ◌&&◌, not, if◌then◌else◌}
+use Rattle.ap_shparse.specs.Bytes.{Text, after}
 use Rattle.ap_shparse.specs.Places.{Place, args, at_text}
 use Rattle.ap_shparse.specs.Words.{is_assignment}
 use Rattle.ap_shparse.specs.Redirects.{redirects}
 use Rattle.ap_shparse.specs.Commands.{alone, calls_at, ends_command, is_here, is_reserved, leaves, past_blanks, stops}
-use Rattle.ap_shparse.specs.LineRules.{Rule, moved}
+use Rattle.ap_shparse.specs.LineRules.{HasNo, IsKeyword, Rule}
 use Rattle.ap_shparse.specs.PieceRules.{TextRule}
 use Rattle.ap_shparse.specs.WordRules.{IsAssignment, IsWord}
 use Rattle.ap_shparse.specs.RedirectRules.{IsRedirection}
@@ -39,14 +39,14 @@ is_word e = false
 -- a word, which no redirection's digit is, and no assignment where one may stand: where worded says that no word stands before
 abbrev pub IsPlain : TextRule Simple → Bool → Place → Place → Word → Type 0
 IsPlain IsSub worded p q w =
-    (t : Text) × (redirects p.text ≡ false) × ((not worded && is_assignment p.text) ≡ false) × (past args p.text ≡ None)
+    (t : Text) × (redirects p.text ≡ false) × ((not worded && is_assignment p.text) ≡ false) × HasNo args p.text
     × IsWord IsSub p.text t w × (q ≡ at_text p t)
 
 -- an element; an assignment has no word before it
 abbrev pub IsElement : TextRule Simple → Bool → Rule Element
 IsElement IsSub worded p q (assigns a) = (t : Text) × (worded ≡ false) × IsAssignment IsSub p.text t a × (q ≡ at_text p t)
 IsElement IsSub worded p q (plain k w) = IsPlain IsSub worded p q w × (k ≡ calls_at p.text)
-IsElement IsSub worded p q arguments = moved p (past args p.text) ≡ Some q
+IsElement IsSub worded p q arguments = IsKeyword args p q
 IsElement IsSub worded p q (redirected o r) = IsRedirection IsSub o p q r
 
 -- elements, each behind blanks, as far as they go

@@ -2,17 +2,22 @@
 use Rattle.std.specs.Prelude.{◌≡◌, ℕ, zero, suc, List, [], ◌∷◌, ◌++◌, ◌⊎◌, Option, Some, None, true, false}
 use Rattle.std.specs.Str.{bytes_eq}
 use Rattle.ap_shparse.specs.Bytes.{Text, begins_with, enders, ends_word, gap, is_among}
-use Rattle.ap_shparse.specs.Places.{Place, here_at, is_delimiter, lone}
+use Rattle.ap_shparse.specs.Places.{Place, args, bracket, here_at, is_delimiter}
+use Rattle.ap_shparse.specs.LineRules.{HasNo, IsWhole}
 use Rattle.ap_shparse.specs.PieceRules.{ArePieces, IsRun, Piece, TextRule}
 use Rattle.ap_shparse.specs.declared.class.Class.TheVariants.{Comment, Quoted}
 use Rattle.ap_shparse.specs.declared.tree.Simple.{Simple}
 
 -- ---- the next newline that isn't part of a word
 
+-- `[` or `"$@"`
+abbrev pub IsLone : Text → Text → Type 0
+IsLone t u = IsWhole bracket t u ⊎ IsWhole args t u
+
 -- a byte of an operator, `[` or `"$@"`, or the pieces of a word
 abbrev pub IsToken : TextRule Simple → Text → Text → Type 0
 IsToken IsSub t u = ((c : ℕ) × (t ≡ c ∷ u) × (is_among c enders ≡ true))
-    ⊎ ((lone t ≡ Some u) ⊎ ((ps : List Piece) × (ends_word t ≡ false) × (lone t ≡ None) × ArePieces IsSub t u ps))
+    ⊎ (IsLone t u ⊎ ((ps : List Piece) × (ends_word t ≡ false) × HasNo bracket t × HasNo args t × ArePieces IsSub t u ps))
 
 -- behind so many tokens, with blanks and a comment before each
 abbrev pub IsNewlineBehind : TextRule Simple → ℕ → Text → Text → Type 0

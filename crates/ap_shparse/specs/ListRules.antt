@@ -1,12 +1,12 @@
 -- The rules of the shell grammar for lists, AND-OR lists and `if`, from one place of a text to another (POSIX.1, 2.9.3, 2.9.4.4 and
 -- 2.10.2). Each says which value stands between two places.
-use Rattle.std.specs.Prelude.{◌≡◌, ℕ, zero, suc, List, [], ◌∷◌, ◌⊎◌, Some, None, Bool, true, false, codes}
+use Rattle.std.specs.Prelude.{◌≡◌, ℕ, zero, suc, List, [], ◌∷◌, ◌++◌, ◌⊎◌, Bool, true, false, codes}
 use Rattle.ap_shparse.specs.Bytes.{Text}
 use Rattle.ap_shparse.specs.Places.{Place, at_text, past_gap}
-use Rattle.ap_shparse.specs.LineRules.{AreLines, HasNo, IsKeyword, Rule}
+use Rattle.ap_shparse.specs.LineRules.{AreLines, HasNo, IsKeyword, IsNewline, Rule}
 use Rattle.ap_shparse.specs.Commands.{past_blanks}
 use Rattle.ap_shparse.specs.CommandRules.{IsSimple, IsSubstitution}
-use Rattle.ap_shparse.specs.Lists.{closes, item_of, joined, joiner, past_end}
+use Rattle.ap_shparse.specs.Lists.{closes, item_of, joined}
 use Rattle.ap_shparse.specs.declared.elements.Called.{Called}
 use Rattle.ap_shparse.specs.declared.item.Item.{Item}
 use Rattle.ap_shparse.specs.declared.item.Member.{Member}
@@ -20,7 +20,7 @@ use Rattle.ap_shparse.specs.declared.tree.Node.TheVariants as node
 -- `else` list, or nothing
 abbrev pub IsElse : Rule (List Chain) → Rule (List Chain)
 IsElse IsBelow p q cs =
-    (HasNo (codes "else") p × (q ≡ p) × (cs ≡ [])) ⊎ ((m : Place) × IsKeyword (codes "else") p m × IsBelow m q cs)
+    (HasNo (codes "else") p.text × (q ≡ p) × (cs ≡ [])) ⊎ ((m : Place) × IsKeyword (codes "else") p m × IsBelow m q cs)
 
 -- `if` list `then` list, `else` list where there is one, and `fi`
 pub record IsIf (IsBelow : Rule (List Chain)) (p q : Place) (n : Node) : Type 0 where
@@ -57,9 +57,16 @@ IsCommand IsBelow p q m = IsSimpleMember p q m ⊎ IsIfMember IsBelow p q m
 
 -- ---- AND-OR lists
 
--- `||`, where or is true, or `&&`, behind blanks
+abbrev pub operator : Bool → Text
+operator true = codes "||"
+operator false = codes "&&"
+
+-- behind blanks
 abbrev pub IsOperator : Place → Place → Bool → Type 0
-IsOperator p q or = (t : Text) × (joiner (past_blanks p).text ≡ Some (or, t)) × (q ≡ at_text p t)
+IsOperator p q or = (t : Text) × ((past_blanks p).text ≡ operator or ++ t) × (q ≡ at_text p t)
+
+abbrev pub NoOperator : Text → Type 0
+NoOperator t = (or : Bool) (u : Text) → t ≡ operator or ++ u → ⊥
 
 -- an operator, newlines, and a command
 pub record IsJoined (IsBelow : Rule (List Chain)) (p q : Place) (j : Joined) : Type 0 where
@@ -74,7 +81,7 @@ pub record IsJoined (IsBelow : Rule (List Chain)) (p q : Place) (j : Joined) : T
 
 -- the commands behind the first, as far as operators stand behind them
 abbrev pub AreJoined : Rule (List Chain) → Rule (List Joined)
-AreJoined IsBelow p q [] = (q ≡ past_blanks p) × (joiner q.text ≡ None)
+AreJoined IsBelow p q [] = (q ≡ past_blanks p) × NoOperator q.text
 AreJoined IsBelow p q (j ∷ js) = (m : Place) × IsJoined IsBelow p m j × AreJoined IsBelow m q js
 
 -- one command or more; one alone may stop a script
@@ -88,13 +95,17 @@ pub record IsItem (IsBelow : Rule (List Chain)) (p q : Place) (i : Item) : Type 
 
 -- ---- lists
 
+-- a newline or `;`
+abbrev pub IsItemEnd : Place → Place → Type 0
+IsItemEnd p q = IsNewline p q ⊎ ((t : Text) × (p.text ≡ codes ";" ++ t) × (q ≡ at_text p t))
+
 -- an item behind newlines, with its newline or `;` behind blanks and a comment
 pub record IsEnded (IsBelow : Rule (List Chain)) (p q : Place) (i : Item) : Type 0 where
   pub start : Place
   pub item_end : Place
   pub are_lines : AreLines p start
   pub is_item : IsItem IsBelow start item_end i
-  pub is_end : past_end (past_gap item_end) ≡ Some q
+  pub is_end : IsItemEnd (past_gap item_end) q
 
 -- items, and newlines behind them, as far as a word that closes the list
 abbrev pub AreItems : Rule (List Chain) → Rule (List Chain)

@@ -1,8 +1,9 @@
 -- The rules of the shell grammar for words and assignments (POSIX.1, 2.3, 2.4 and 2.9.1).
-use Rattle.std.specs.Prelude.{◌≡◌, List, ◌∷◌, ◌⊎◌, Some, true, false}
-use Rattle.ap_shparse.specs.Bytes.{Text, past}
+use Rattle.std.specs.Prelude.{◌≡◌, List, ◌∷◌, ◌⊎◌, true, false}
+use Rattle.ap_shparse.specs.Bytes.{Text}
 use Rattle.ap_shparse.specs.Places.{bracket}
 use Rattle.ap_shparse.specs.Words.{assign, begins_word, differs, text_word}
+use Rattle.ap_shparse.specs.LineRules.{IsWhole}
 use Rattle.ap_shparse.specs.PieceRules.{ArePieces, IsName, Piece, TextRule, has_expansion, has_tilde, parts}
 use Rattle.ap_shparse.specs.declared.tree.Assign.{Assign}
 use Rattle.ap_shparse.specs.declared.tree.Simple.{Simple}
@@ -11,7 +12,7 @@ use Rattle.ap_shparse.specs.declared.tree.Word.TheVariants as word
 
 -- this text is the word, without quotes
 abbrev pub IsAlone : Text → TextRule Word
-IsAlone k t u w = (past k t ≡ Some u) × (w ≡ text_word k)
+IsAlone k t u w = IsWhole k t u × (w ≡ text_word k)
 
 -- pieces that touch, without an expansion outside double quotes
 pub record IsPieced (IsSub : TextRule Simple) (t u : Text) (w : Word) : Type 0 where
