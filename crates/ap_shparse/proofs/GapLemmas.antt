@@ -35,7 +35,7 @@ pub gap_short : (t : Text) → length (gap t) ≤ length t
 unfolding gap
 gap_short t = omega (arith, comment_short (after Blank t), after_short Blank t)
 
-pub behind_short : (bs : Option Text) (t : Text) → length (behind bs t) ≤ length t
+behind_short : (bs : Option Text) (t : Text) → length (behind bs t) ≤ length t
 behind_short None t = omega arith
 behind_short (Some z) t = omega (arith, length-drop (length t - (length z - 1)) t)
 

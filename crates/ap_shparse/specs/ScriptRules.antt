@@ -1,5 +1,6 @@
 -- The rules of the shell grammar for whole texts (POSIX.1, 2.10.2, `program`; that a stopping command ends a script is this
--- project's own).
+-- project's own). They stand on those of PieceRules, WordRules, LineRules, HereRules, RedirectRules, CommandRules and ListRules,
+-- none of which reads: each says what may stand between two texts, or between two places of a text.
 use Rattle.std.specs.Prelude.{◌≡◌, List, [], ◌∷◌, ◌++◌, ◌⊎◌, None, Bool, true, false, ◌&&◌, not}
 use Rattle.ap_shparse.specs.Bytes.{Text}
 use Rattle.ap_shparse.specs.Places.{Place, past_gap, waits}
