@@ -32,6 +32,8 @@ pub fn parse(alloc: Global, text: &[u8], nul: Nul) -> Result<Script, ShellFault>
 }
 
 fn kept(alloc: Global, text: &[u8]) -> Result<Script, ShellFault>
+    ensures program { IfOk result (λ s. IsProgram Nul.Keep text.now s.items) }
+    ensures taken { (cs : List Chain) → IsProgram Nul.Keep text.now cs → ReadsAs cs result }
     ensures script { IfOk result (λ s. IsScript Nul.Keep text.now s.items) }
     ensures only { (cs : List Chain) → IsScript Nul.Keep text.now cs → ReadsAs cs result }
     ensures outside { IfErr result (IsRefused Nul.Keep text.now) }
@@ -44,6 +46,8 @@ fn kept(alloc: Global, text: &[u8]) -> Result<Script, ShellFault>
 }
 
 fn dropped(alloc: Global, text: &[u8]) -> Result<Script, ShellFault>
+    ensures program { IfOk result (λ s. IsProgram Nul.Drop text.now s.items) }
+    ensures taken { (cs : List Chain) → IsProgram Nul.Drop text.now cs → ReadsAs cs result }
     ensures script { IfOk result (λ s. IsScript Nul.Drop text.now s.items) }
     ensures only { (cs : List Chain) → IsScript Nul.Drop text.now cs → ReadsAs cs result }
     ensures outside { IfErr result (IsRefused Nul.Drop text.now) }
