@@ -14,7 +14,7 @@ use Rattle.ap_shparse.proofs.KeptLines.{at_newline, fits, goes_on, kept_newline,
 
 -- ---- lengths
 
-after_short : (k : Class) (t : Text) → length (after k t) ≤ length t
+pub after_short : (k : Class) (t : Text) → length (after k t) ≤ length t
 after_short k [] = omega arith
 after_short k (c ∷ t) = by_has (has k c) (after_short k t)
   where
@@ -31,7 +31,7 @@ comment_short (c ∷ t) = by_hash (c == 35) (after_short Comment t)
     by_hash true l = omega (arith, l)
     by_hash false l = omega arith
 
-gap_short : (t : Text) → length (gap t) ≤ length t
+pub gap_short : (t : Text) → length (gap t) ≤ length t
 unfolding gap
 gap_short t = omega (arith, comment_short (after Blank t), after_short Blank t)
 
@@ -39,7 +39,7 @@ behind_short : (bs : Option Text) (t : Text) → length (behind bs t) ≤ length
 behind_short None t = omega arith
 behind_short (Some z) t = omega (arith, length-drop (length t - (length z - 1)) t)
 
-newline_short : (p q : Place) → past_newline p ≡ Some q → suc (length q.text) ≤ length p.text
+pub newline_short : (p q : Place) → past_newline p ≡ Some q → suc (length q.text) ≤ length p.text
 newline_short p q e =
     let a = at_newline p q e in
     omega (arith, behind_short p.bodies a.rest, ap (λ y. length y.text) a.is_next, ap length a.is_text)
@@ -104,7 +104,7 @@ not_has k (c ∷ t) y w e = by_has (has k c) refl e (not_has k t y w)
     by_has true is e rec = rec e
     by_has false is e rec = let q : c ≡ y = cc in ap (has k) (sym q) ∙ is
 
-run_front : (k : Class) (t : Text) → t ≡ run k t ++ after k t
+pub run_front : (k : Class) (t : Text) → t ≡ run k t ++ after k t
 run_front k [] = refl
 run_front k (c ∷ t) = by_has (has k c) refl (run_front k t)
   where

@@ -90,7 +90,7 @@ kept_item item k q y s i r fs b tail e n l f =
       same_end = m.same;
     }
 
-abbrev closing : Item → Place → Outcome Place Turn
+abbrev pub closing : Item → Place → Outcome Place Turn
 closing i y = if is_cut y then None else and_then (ended (past_gap y)) (λ _. pure (turn_of i (waits y)))
 
 waits_mid : (y : Place) (fs : Option Text) (tail c : Text) → y.bodies ≡ option_map (λ z. z ++ tail) fs → is_some (option_map (λ z. z ++ c) fs) ≡ waits y
@@ -128,11 +128,11 @@ pub record ReadItem (item : Place → Outcome Place Item) (q : Place) (t : Turn)
   pub is_end : past_end (past_gap behind) ≡ Some s
   pub is_turn : t ≡ turn_of item_of (waits behind)
 
-some_end : (o : Option Place) (s : Place) (t v : Turn) → and_then (eaten o) (λ _ z. Some (v, z)) ≡ Some (t, s) → o ≡ Some s
+pub some_end : {A : Type 0} (o : Option Place) (s : Place) (t v : A) → and_then (eaten o) (λ _ z. Some (v, z)) ≡ Some (t, s) → o ≡ Some s
 some_end None s t v e = cc
 some_end (Some z) s t v e = ap (λ y. Some y) (right_of v t z s e)
 
-some_turn : (o : Option Place) (s : Place) (t v : Turn) → and_then (eaten o) (λ _ z. Some (v, z)) ≡ Some (t, s) → t ≡ v
+pub some_turn : {A : Type 0} (o : Option Place) (s : Place) (t v : A) → and_then (eaten o) (λ _ z. Some (v, z)) ≡ Some (t, s) → t ≡ v
 some_turn None s t v e = cc
 some_turn (Some z) s t v e = sym (left_of v t z s e)
 
@@ -157,13 +157,13 @@ pub record ReadNext (item : Place → Outcome Place Item) (q : Place) (t : Turn)
   pub is_read : ReadItem item q t s
   pub not_nil : is_nil q.text ≡ false
 
-abbrev nil_turn : Place → Outcome Place Turn
+abbrev pub nil_turn : Place → Outcome Place Turn
 nil_turn q = if waits q then None else Some (turned.End, q)
 
-abbrev nil_end : Item → Place → Outcome Place Turn
+abbrev pub nil_end : Item → Place → Outcome Place Turn
 nil_end i p = if waits p then None else Some (turned.Last i.chain, p)
 
-abbrev or_turn : Bool → Turn → Place → Outcome Place Turn
+abbrev pub or_turn : Bool → Turn → Place → Outcome Place Turn
 or_turn v t p = if v then None else Some (t, p)
 
 last_not_next : (v : Bool) (i : Item) (p s : Place) (c : Chain) → or_turn v (turned.Last i.chain) p ≡ Some (turned.Next c, s) → ⊥

@@ -170,7 +170,7 @@ unfolding script_from
 same_lines item zero left f p p' e = ap (λ o. if_eaten o (stop_on left f) (Err left)) e
 same_lines item (suc m) left f p p' e = ap (λ o. if_eaten o (λ r. by_turn (script_from item m) (left_at left r) f (turn item r)) (Err left)) e
 
-turn_end : (item : Items) (q : Place) → is_nil q.text && not (waits q) ≡ true → turn item q ≡ Some (turned.End, q)
+pub turn_end : (item : Items) (q : Place) → is_nil q.text && not (waits q) ≡ true → turn item q ≡ Some (turned.End, q)
 unfolding turn
 turn_end item q e = by_parts (is_nil q.text) (waits q) e
   where
@@ -179,10 +179,10 @@ turn_end item q e = by_parts (is_nil q.text) (waits q) e
     by_parts true false e = refl
     by_parts false w e = cc
 
-ok_of : (a b : List Chain) → ◌≡◌ {A = Result (List Chain) ℕ} (Ok a) (Ok b) → a ≡ b
+pub ok_of : (a b : List Chain) → ◌≡◌ {A = Result (List Chain) ℕ} (Ok a) (Ok b) → a ≡ b
 ok_of a b e = cc
 
-no_ok : (a : ℕ) (b : List Chain) → ◌≡◌ {A = Result (List Chain) ℕ} (Err a) (Ok b) → ⊥
+pub no_ok : (a : ℕ) (b : List Chain) → ◌≡◌ {A = Result (List Chain) ℕ} (Err a) (Ok b) → ⊥
 no_ok a b e = cc
 
 more_script : (item : Items) (k m : ℕ) → k ≤ m → (r0 left : ℕ) (f g : List Chain) (p : Place) (ds : List Chain) → script_from item k r0 f p ≡ Ok ds → script_from item m left (g ++ f) p ≡ Ok (g ++ ds)

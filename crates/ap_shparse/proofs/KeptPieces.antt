@@ -172,12 +172,12 @@ pub record KeptTurns (sub : Text → Outcome Text Simple) (f : Found) (x : Text)
   pub takes : ends f x ≡ false → suc (length r) ≤ length front
   pub same : (c : Text) (m : ℕ) → length front ≤ m → units sub m f (front ++ c) ≡ Some (a, r ++ c)
 
-ends_here : (sub : Text → Outcome Text Simple) (m : ℕ) (f : Found) (x : Text) → ends f x ≡ true → units sub m f x ≡ Some (f, x)
+pub ends_here : (sub : Text → Outcome Text Simple) (m : ℕ) (f : Found) (x : Text) → ends f x ≡ true → units sub m f x ≡ Some (f, x)
 unfolding units
 ends_here sub zero f x is = ap (λ v. if v then Some (f, x) else None) is
 ends_here sub (suc m) f x is = ap (λ v. if v then Some (f, x) else and_then (unit sub f x) (units sub m)) is
 
-goes_on : (sub : Text → Outcome Text Simple) (m : ℕ) (f : Found) (x : Text) → ends f x ≡ false → units sub (suc m) f x ≡ and_then (unit sub f x) (units sub m)
+pub goes_on : (sub : Text → Outcome Text Simple) (m : ℕ) (f : Found) (x : Text) → ends f x ≡ false → units sub (suc m) f x ≡ and_then (unit sub f x) (units sub m)
 unfolding units
 goes_on sub m f x is = ap (λ v. if v then Some (f, x) else and_then (unit sub f x) (units sub m)) is
 

@@ -49,7 +49,7 @@ is_assignment_same t b h =
 -- ---- words
 
 -- a word takes a byte at least
-begins_inside : (t : Text) → begins_word t ≡ true → ends_word t ≡ false
+pub begins_inside : (t : Text) → begins_word t ≡ true → ends_word t ≡ false
 unfolding begins_word ends_word is_plain
 begins_inside [] e = cc
 begins_inside (c ∷ t) e = grind (arith, nat_tests)

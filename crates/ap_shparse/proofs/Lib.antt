@@ -15,3 +15,12 @@ pub mod GrownLemmas
 pub mod LongestLemmas
 pub mod OutsideLemmas
 pub mod JoinLemmas
+pub mod PieceMeets
+pub mod WordMeets
+pub mod LineMeets
+pub mod HereMeets
+pub mod RedirectMeets
+pub mod CommandMeets
+pub mod ListMeets
+pub mod ScriptMeets
+pub mod FrontMeets

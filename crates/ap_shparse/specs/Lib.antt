@@ -10,3 +10,12 @@ pub mod Nests
 pub mod Scripts
 pub mod Grammar
 pub mod Fronts
+pub mod PieceRules
+pub mod WordRules
+pub mod HereRules
+pub mod LineRules
+pub mod ListRules
+pub mod RedirectRules
+pub mod CommandRules
+pub mod ScriptRules
+pub mod FrontRules

@@ -1,6 +1,7 @@
 //! The script of a text.
 ghost use Rattle.std.specs.Prelude.{◌≡◌, IfOk, IfErr, List};
 ghost use Rattle.ap_shparse.specs.Grammar.{IsRefused, IsScript, ReadsAs};
+ghost use Rattle.ap_shparse.specs.ScriptRules.{IsProgram};
 ghost use Rattle.ap_shparse.specs.declared.tree.Chain.{Chain};
 
 use crate::script::script;
@@ -15,9 +16,12 @@ use std::alloc::Global;
 /// closing line with a newline.
 /// `NoMemory`: the text or its script couldn't be held.
 pub fn parse(alloc: Global, text: &[u8], nul: Nul) -> Result<Script, ShellFault>
-    // What is answered is the text's script.
+    // What is answered is what the rules of the grammar say that the text spells.
+    ensures program { IfOk result (λ s. IsProgram nul text.now s.items) }
+    // A text that the rules have isn't refused, unless memory runs out.
+    ensures taken { (cs : List Chain) → IsProgram nul text.now cs → ReadsAs cs result }
+    // The same, by the reading functions.
     ensures script { IfOk result (λ s. IsScript nul text.now s.items) }
-    // A text that has a script isn't refused, unless memory runs out.
     ensures only { (cs : List Chain) → IsScript nul text.now cs → ReadsAs cs result }
     ensures outside { IfErr result (IsRefused nul text.now) }
 {
@@ -28,6 +32,8 @@ pub fn parse(alloc: Global, text: &[u8], nul: Nul) -> Result<Script, ShellFault>
 }
 
 fn kept(alloc: Global, text: &[u8]) -> Result<Script, ShellFault>
+    ensures program { IfOk result (λ s. IsProgram Nul.Keep text.now s.items) }
+    ensures taken { (cs : List Chain) → IsProgram Nul.Keep text.now cs → ReadsAs cs result }
     ensures script { IfOk result (λ s. IsScript Nul.Keep text.now s.items) }
     ensures only { (cs : List Chain) → IsScript Nul.Keep text.now cs → ReadsAs cs result }
     ensures outside { IfErr result (IsRefused Nul.Keep text.now) }
@@ -40,6 +46,8 @@ fn kept(alloc: Global, text: &[u8]) -> Result<Script, ShellFault>
 }
 
 fn dropped(alloc: Global, text: &[u8]) -> Result<Script, ShellFault>
+    ensures program { IfOk result (λ s. IsProgram Nul.Drop text.now s.items) }
+    ensures taken { (cs : List Chain) → IsProgram Nul.Drop text.now cs → ReadsAs cs result }
     ensures script { IfOk result (λ s. IsScript Nul.Drop text.now s.items) }
     ensures only { (cs : List Chain) → IsScript Nul.Drop text.now cs → ReadsAs cs result }
     ensures outside { IfErr result (IsRefused Nul.Drop text.now) }

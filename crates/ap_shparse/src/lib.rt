@@ -23,7 +23,8 @@ mod law; // what holds of the grammar itself
 
 pub use grammar::parse;
 pub use law::{
-    lines_then_text, stopped_fronts_are_scripts, texts_have_one_script, whole_fronts_are_scripts,
+    fronts_are_lists, lines_then_text, scripts_are_programs, stopped_fronts_are_scripts,
+    texts_have_one_script, whole_fronts_are_scripts,
 };
 pub use tree::{
     Assign, Chain, Joined, Node, Nul, Part, Redirection, Script, ShellFault, Simple, Target, Word,
