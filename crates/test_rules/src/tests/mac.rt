@@ -7,6 +7,7 @@ use ap_claims::{Block, Owners};
 use ap_layout::place;
 use ap_mach::write_mach;
 use ap_script::{write_script, write_tables};
+use std::process::Abort;
 use std::test::Fail;
 
 const DARWIN: &[u8] = b"if [ \"$s\" = Darwin ]; then\n\
@@ -90,17 +91,22 @@ fn the_header_stands_behind_the_window(rt: HostRuntime) -> Result<(), Fail> {
     assert!(rt; block.owners(8767) == Owners::MACH && block.owners(8768) == Owners::default());
     assert!(rt; block.bytes()[8208..].starts_with(&[6, 0, 0, 0, 0x20, 2, 0, 0]));
     for (program, len, lines) in [(PLAIN, 360, DARWIN), (other(), 0, NO_DARWIN)] {
-        let input = check_input(&program, 1).ok().ok_or("refused")?;
-        assert!(rt; input.size == 144);
-        let job = check_all(&input, None, &mac(), &program)
-            .ok()
-            .ok_or("refused")?;
-        let lay = place(&job);
-        assert!(rt; lay.mach_len == len && (lay.mach_at == 8192) == (len != 0));
-        let mut block = Block::new();
-        assert!(rt; write_tables(&mut block, &job, &lay).is_ok());
-        assert!(rt; write_script(&mut block, &job, &lay).is_ok());
-        assert!(rt; block.bytes()[286..].starts_with(lines));
+        is_written(&rt, &program, len, lines).ok_or("refused")?;
     }
     Ok(())
+}
+
+/// The length of the Mach-O header of a linked file, and the lines of its script behind the first ones. `None`, where the program
+/// isn't taken.
+fn is_written(rt: &impl Abort, program: &[u8; 144], len: u32, lines: &[u8]) -> Option<()> {
+    let input = check_input(program, 1).ok()?;
+    assert!(rt; input.size == 144);
+    let job = check_all(&input, None, &mac(), program).ok()?;
+    let lay = place(&job);
+    assert!(rt; lay.mach_len == len && (lay.mach_at == 8192) == (len != 0));
+    let mut block = Block::new();
+    write_tables(&mut block, &job, &lay).ok()?;
+    write_script(&mut block, &job, &lay).ok()?;
+    assert!(rt; block.bytes()[286..].starts_with(lines));
+    Some(())
 }
