@@ -1,0 +1,5 @@
+pub mod Equations
+pub mod Opened
+pub mod FileFacts
+pub mod Stopping
+pub mod Testing
