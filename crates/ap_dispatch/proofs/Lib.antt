@@ -3,3 +3,8 @@ pub mod Opened
 pub mod FileFacts
 pub mod Stopping
 pub mod Testing
+pub mod Copying
+pub mod FirstItems
+pub mod CopyNames
+pub mod SystemItems
+pub mod ScriptMeaning
