@@ -8,3 +8,4 @@ pub mod FirstItems
 pub mod CopyNames
 pub mod SystemItems
 pub mod ScriptMeaning
+pub mod ReadLines
