@@ -9,3 +9,4 @@ pub mod CopyNames
 pub mod SystemItems
 pub mod ScriptMeaning
 pub mod ReadLines
+pub mod ReadWords

@@ -15,3 +15,4 @@ pub mod GrownLemmas
 pub mod LongestLemmas
 pub mod OutsideLemmas
 pub mod JoinLemmas
+pub mod QuotedTexts
