@@ -10,3 +10,4 @@ pub mod SystemItems
 pub mod ScriptMeaning
 pub mod ReadLines
 pub mod ReadWords
+pub mod ReadItems

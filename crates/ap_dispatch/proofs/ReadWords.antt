@@ -7,32 +7,20 @@ use Rattle.std.proofs.lemmas.Bool.Decides.{nat_tests}
 use Rattle.std.proofs.lemmas.Fmt.{decimal_by_steps, decimal_nonempty, length-decimal-le}
 use Rattle.ap_octal.specs.DdPlace.{is_digit, short_number, with_digits}
 use Rattle.ap_script.proofs.Quotes.{has_no_quote}
-use Rattle.ap_shparse.specs.Bytes.{Text, after, ends_word, has, is_plain, run}
+use Rattle.ap_shparse.specs.Bytes.{Text, ends_word, is_plain}
 use Rattle.ap_shparse.specs.Reads.{Outcome}
 use Rattle.ap_shparse.specs.Pieces.{none_found, outside, pieces, plain, single, unit, units, with_bytes}
-use Rattle.ap_shparse.specs.declared.class.Class.TheVariants.{Quoted}
 use Rattle.ap_shparse.specs.declared.tree.Simple.{Simple}
+use Rattle.ap_shparse.proofs.QuotedTexts.{lacks, single_reads}
 use Rattle.ap_dispatch.proofs.Testing.{append_nil}
 
 -- ---- single quotes
 
-quote_apart : (c : ℕ) → not (c == 39) ≡ true → has Quoted c ≡ true
-unfolding has
-quote_apart c h = h
-
-pub run_quoted : (t u : Text) → has_no_quote t ≡ true → run Quoted (t ++ 39 ∷ u) ≡ t
-unfolding has
-run_quoted [] u h = refl
-run_quoted (c ∷ t) u h =
+pub lacks_quote : (t : Text) → has_no_quote t ≡ true → lacks 39 t ≡ true
+lacks_quote [] h = refl
+lacks_quote (c ∷ t) h =
     let parts = and_parts (not (c == 39)) (has_no_quote t) h in
-    ap (λ b. cond b (c ∷ run Quoted (t ++ 39 ∷ u)) []) parts.0 ∙ ap (λ r. c ∷ r) (run_quoted t u parts.1)
-
-pub after_quoted : (t u : Text) → has_no_quote t ≡ true → after Quoted (t ++ 39 ∷ u) ≡ 39 ∷ u
-unfolding has
-after_quoted [] u h = refl
-after_quoted (c ∷ t) u h =
-    let parts = and_parts (not (c == 39)) (has_no_quote t) h in
-    ap (λ b. cond b (after Quoted (t ++ 39 ∷ u)) (c ∷ (t ++ 39 ∷ u))) parts.0 ∙ after_quoted t u parts.1
+    rw parts.0 (lacks_quote t parts.1)
 
 -- a blank ends a word
 units_end : (sub : Text → Outcome Text Simple) (n : ℕ) (t u : Text) → units sub n (with_bytes none_found t) (32 ∷ u) ≡ Some (with_bytes none_found t, 32 ∷ u)
@@ -41,10 +29,10 @@ units_end sub zero t u = refl
 units_end sub (suc n) t u = refl
 
 -- a word in single quotes
-pub quoted_word : (sub : Text → Outcome Text Simple) (t u : Text) → has_no_quote t ≡ true
+pub quoted_word : (sub : Text → Outcome Text Simple) (t u : Text) → lacks 39 t ≡ true
     → pieces sub (39 ∷ (t ++ 39 ∷ 32 ∷ u)) ≡ Some (with_bytes none_found t, 32 ∷ u)
-unfolding pieces units unit outside single ends_word
-quoted_word sub t u h = rw (after_quoted t (32 ∷ u) h, run_quoted t (32 ∷ u) h, units_end sub (length (t ++ 39 ∷ 32 ∷ u)) t u) refl
+unfolding pieces units unit outside ends_word
+quoted_word sub t u h = rw (single_reads none_found t (32 ∷ u) h, units_end sub (length (t ++ 39 ∷ 32 ∷ u)) t u) refl
 
 -- ---- decimal digits
 
@@ -106,18 +94,25 @@ some_is v k e = cc
 no_none : (k : ℕ) → ◌≡◌ {A = Option ℕ} None (Some k) → ⊥
 no_none k e = cc
 
+digits_more_by : (b : Bool) (v c k n : ℕ) (ds : List ℕ) → ((m : ℕ) → with_digits m ds ≡ Some k → with_digits m (ds ++ (48 + n) ∷ []) ≡ Some (k * 10 + n))
+    → cond b (with_digits (v * 10 + (c - 48)) ds) None ≡ Some k → cond b (with_digits (v * 10 + (c - 48)) (ds ++ (48 + n) ∷ [])) None ≡ Some (k * 10 + n)
+digits_more_by true v c k n ds next is = next (v * 10 + (c - 48)) is
+digits_more_by false v c k n ds next is = absurd (no_none k is)
+
 digits_more : (ds : List ℕ) (v k n : ℕ) → n < 10 → with_digits v ds ≡ Some k → with_digits v (ds ++ (48 + n) ∷ []) ≡ Some (k * 10 + n)
-digits_more_by : (b : Bool) (c : ℕ) (ds : List ℕ) (v k n : ℕ) → n < 10 → is_digit c ≡ b → cond b (with_digits (v * 10 + (c - 48)) ds) None ≡ Some k
-    → cond b (with_digits (v * 10 + (c - 48)) (ds ++ (48 + n) ∷ [])) None ≡ Some (k * 10 + n)
 digits_more [] v k n low is = digit_read v n low ∙ ap (λ m. Some (m * 10 + n)) (some_is v k is)
-digits_more (c ∷ ds) v k n low is = digits_more_by (is_digit c) c ds v k n low refl is
-digits_more_by true c ds v k n low digit is = digits_more ds (v * 10 + (c - 48)) k n low is
-digits_more_by false c ds v k n low digit is = absurd (no_none k is)
+digits_more (c ∷ ds) v k n low is = digits_more_by (is_digit c) v c k n ds (λ m e. digits_more ds m k n low e) is
 
 decimal_read : (n : ℕ) → n < 2 ^ 64 → with_digits 0 (decimal n) ≡ Some n
 decimal_read n small =
-    decimal_by_steps (λ m ds. with_digits 0 ds ≡ Some m) (λ m low. digit_read 0 m low)
-    (λ m ds high is. digits_more ds 0 (m / 10) (m % 10) (omega arith) is ∙ ap (λ k. Some k) (omega arith)) n small
+    decimal_by_steps (λ m ds. with_digits 0 ds ≡ Some m) (λ m low. digit_read 0 m low ∙ ap (λ k. Some k) (first m))
+    (λ m ds high is. digits_more ds 0 (m / 10) (m % 10) (omega arith) is ∙ ap (λ k. Some k) (whole m)) n small
+  where
+    first : (m : ℕ) → 0 * 10 + m ≡ m
+    first m = omega arith
+
+    whole : (m : ℕ) → m / 10 * 10 + m % 10 ≡ m
+    whole m = omega arith
 
 short_by : (t : List ℕ) (n : ℕ) → 0 < length t → length t ≤ 9 → with_digits 0 t ≡ Some n → short_number t ≡ Some n
 short_by t n some few is = grind (arith, nat_tests, is)
