@@ -11,3 +11,4 @@ pub mod ScriptMeaning
 pub mod ReadLines
 pub mod ReadWords
 pub mod ReadItems
+pub mod ReadBranches
