@@ -12,3 +12,4 @@ pub mod ReadLines
 pub mod ReadWords
 pub mod ReadItems
 pub mod ReadBranches
+pub mod ReadScript
