@@ -13,3 +13,5 @@ pub mod ReadWords
 pub mod ReadItems
 pub mod ReadBranches
 pub mod ReadScript
+pub mod ReadWhole
+pub mod ReadOpening

@@ -100,10 +100,10 @@ HasBytes None = Unit {0}
 HasBytes (Some []) = ⊥
 HasBytes (Some (c ∷ header)) = Unit {0}
 
-abbrev machines_text : Option Text → Option Text → Text → Text
+abbrev pub machines_text : Option Text → Option Text → Text → Text
 machines_text x64 a64 rest = machine_lines X64 x64 ++ (machine_lines A64 a64 ++ (codes "fi\n" ++ rest))
 
-machines_list : (d : ℕ) (x64 a64 : Option Text) (rest : Text) → HasBytes x64 → HasBytes a64 → (is_some x64 ≡ false → is_some a64 ≡ false → ⊥)
+pub machines_list : (d : ℕ) (x64 a64 : Option Text) (rest : Text) → HasBytes x64 → HasBytes a64 → (is_some x64 ≡ false → is_some a64 ≡ false → ⊥)
     → list (suc (suc d)) (alone (10 ∷ machines_text x64 a64 rest)) ≡ Some (machine_items X64 x64 ++ machine_items A64 a64, alone (codes "fi\n" ++ rest))
 machines_list d None None rest x a one = absurd (one refl refl)
 machines_list d (Some []) a64 rest x a one = absurd x
@@ -134,12 +134,12 @@ machines_list d (Some (c ∷ header)) (Some (g ∷ other)) rest x a one =
 
 -- ---- the test of the systems
 
-kernels : Bool → Bool → Bool → List Text
+abbrev pub kernels : Bool → Bool → Bool → List Text
 kernels linux freebsd netbsd = cond linux (codes "Linux" ∷ []) [] ++ (cond freebsd (codes "FreeBSD" ∷ []) [] ++ cond netbsd (codes "NetBSD" ∷ []) [])
 
-system_test_reads : (d : ℕ) (linux freebsd netbsd : Bool) (more : Text)
+pub system_test_reads : (d : ℕ) (linux freebsd netbsd : Bool) (more : Text)
     → list (suc d) (alone (32 ∷ (or_tests (kernels linux freebsd netbsd) ++ (codes "; then\n" ++ more)))) ≡ Some (system_test (kernels linux freebsd netbsd) ∷ [], alone (codes "then\n" ++ more))
-unfolding kernels list items items_from next_item chain command others join newlines newlines_from simple is_reserved elements element next_word plain_word pieced begins_word is_assignment units unit pieces outside inside dollar variable name plain escaped quoted has is_plain ends_word gap past_comment redirects
+unfolding list items items_from next_item chain command others join newlines newlines_from simple is_reserved elements element next_word plain_word pieced begins_word is_assignment units unit pieces outside inside dollar variable name plain escaped quoted has is_plain ends_word gap past_comment redirects
 system_test_reads d true true true more = refl
 system_test_reads d true true false more = refl
 system_test_reads d true false true more = refl
