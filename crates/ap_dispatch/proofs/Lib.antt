@@ -15,3 +15,4 @@ pub mod ReadBranches
 pub mod ReadScript
 pub mod ReadWhole
 pub mod ReadOpening
+pub mod FreeTexts

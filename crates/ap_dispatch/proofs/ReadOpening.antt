@@ -72,3 +72,23 @@ opening_ends below n false true value d body rest all quiet is ends left =
     rw (quoted_word substitution (10 ∷ value) (codes "<<'" ++ (d ++ (codes "'\n" ++ (body ++ (codes "\n" ++ (d ++ (codes "\n" ++ rest))))))) quiet, here_reads substitution d body rest is, behind_is body d rest) (ends _)
 opening_ends below n false false value d body rest all quiet is ends left =
     rw (quoted_word substitution (10 ∷ value) (codes "<<'" ++ (d ++ (codes "'\n" ++ (body ++ (codes "\n" ++ (d ++ (codes "\n" ++ rest))))))) quiet, here_reads substitution d body rest is, behind_is body d rest) (ends _)
+
+-- ---- the whole text
+
+-- the items of a text that opens so, and goes on with the script
+abbrev pub all_items : Text → Text → Text → Systems → Option Text → Option Text → ℕ → ℕ → List Chain
+all_items name value body systems x64 a64 skip count = opening_item name (10 ∷ value) (body ++ 10 ∷ []) ∷ script_items systems x64 a64 skip count
+
+pub text_reads : (windows debug : Bool) (value d body : Text) (systems : Systems) (x64 a64 : Option Text) (skip count : ℕ) (rest : Text) → lacks 39 value ≡ true → IsDelimiter d body
+    → HasBytes x64 → HasBytes a64 → (is_some x64 ≡ false → is_some a64 ≡ false → ⊥) → skip < 2 ^ 64 → count < 2 ^ 64
+    → script (opening_text (magic_name windows debug) value d body (script_of systems x64 a64 skip count ++ rest)) ≡ Ok (all_items (magic_name windows debug) value body systems x64 a64 skip count)
+unfolding script
+text_reads true debug value d body systems x64 a64 skip count rest quiet is x a one small few =
+    opening_ends (list 64) _ true debug value d body (script_of systems x64 a64 skip count ++ rest) (all_items (codes "MZqFpD") value body systems x64 a64 skip count) quiet is
+    (script_ends 62 _ systems x64 a64 skip count rest (opening_item (codes "MZqFpD") (10 ∷ value) (body ++ 10 ∷ [])) x a one small few) _
+text_reads false true value d body systems x64 a64 skip count rest quiet is x a one small few =
+    opening_ends (list 64) _ false true value d body (script_of systems x64 a64 skip count ++ rest) (all_items (codes "APEDBG") value body systems x64 a64 skip count) quiet is
+    (script_ends 62 _ systems x64 a64 skip count rest (opening_item (codes "APEDBG") (10 ∷ value) (body ++ 10 ∷ [])) x a one small few) _
+text_reads false false value d body systems x64 a64 skip count rest quiet is x a one small few =
+    opening_ends (list 64) _ false false value d body (script_of systems x64 a64 skip count ++ rest) (all_items (codes "jartsr") value body systems x64 a64 skip count) quiet is
+    (script_ends 62 _ systems x64 a64 skip count rest (opening_item (codes "jartsr") (10 ∷ value) (body ++ 10 ∷ [])) x a one small few) _
