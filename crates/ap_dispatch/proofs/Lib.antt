@@ -16,3 +16,4 @@ pub mod ReadScript
 pub mod ReadWhole
 pub mod ReadOpening
 pub mod FreeTexts
+pub mod LinkedText

@@ -1,6 +1,6 @@
 -- The dispatch table: how the script of a linked file ends, and the host afterwards, by what the script was written for (as
 -- `script_of` takes it), the file's bytes, and what a shell sees of its surroundings. In the words of ap_shell.
-use Rattle.std.specs.Prelude.{◌≡◌, ◌≢◌, ℕ, ◌&&◌, ◌||◌, if◌then◌else◌, Bool, true, false, List, [], ◌∷◌, ◌++◌, codes, Option, Some, None, unwrap_or}
+use Rattle.std.specs.Prelude.{◌≡◌, ◌≢◌, ℕ, ◌/◌, ◌&&◌, ◌||◌, if◌then◌else◌, Bool, true, false, List, [], ◌∷◌, ◌++◌, codes, Option, Some, None, unwrap_or}
 use Rattle.std.specs.Option.{is_some}
 use Rattle.std.specs.List.{list_any}
 use Rattle.std.specs.Str.{bytes_eq}
@@ -9,10 +9,13 @@ use Rattle.std.specs.FinMap as fin
 use Rattle.ap_fields.specs.Bytes.{over}
 use Rattle.ap_octal.specs.DdEffect.{dd_effect}
 use Rattle.ap_check.specs.declared.options.Systems.{Systems}
+use Rattle.ap_check.specs.declared.options.Options.{Options}
 use Rattle.ap_check.specs.Options.{has_system}
+use Rattle.ap_check.specs.Inputs.{Taken}
 use Rattle.ap_elf.specs.declared.machine.Machine.{Machine}
 use Rattle.ap_elf.specs.declared.machine.Machine.TheVariants.{X64, A64}
-use Rattle.ap_script.specs.Script.{kernels_of, machine_names}
+use Rattle.ap_layout.specs.Positions.{Positions, placed_inputs}
+use Rattle.ap_script.specs.Script.{header_for, kernels_of, machine_names}
 use Rattle.ap_shell.specs.Files.{Text}
 use Rattle.ap_shell.specs.Places.{host_file}
 use Rattle.ap_shell.specs.FileCommands.{begins_with}
@@ -76,6 +79,11 @@ dispatch systems x64 a64 skip count w env host =
     else (if is_one_of (system_name env) (kernels_of systems)
     then by_header (named_header x64 a64 (machine_name env)) w env host
     else (Exits 126, host)))
+
+-- the same by the inputs of a linked file, and the places of its parts
+abbrev pub dispatch_for : Options → List Taken → Positions → Text → Env → Host → Outcome × Host
+dispatch_for options inputs l =
+    dispatch options.systems (header_for X64 (placed_inputs inputs l)) (header_for A64 (placed_inputs inputs l)) (l.mach_at / 8) (l.mach_len / 8)
 
 -- ---- what it supposes
 
