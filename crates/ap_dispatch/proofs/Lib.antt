@@ -17,3 +17,4 @@ pub mod ReadWhole
 pub mod ReadOpening
 pub mod FreeTexts
 pub mod LinkedText
+pub mod LinkedDispatch
