@@ -4,6 +4,7 @@ use Rattle.std.specs.Prelude.{Option, Some, None, ◌||◌}
 use Rattle.std.specs.FinMap as fin
 use Rattle.std.specs.Fmt.{decimal}
 use Rattle.std.specs.Str.{bytes_eq}
+use Rattle.std.proofs.lemmas.List.{append-nil}
 use Rattle.ap_fields.specs.Bytes.{over}
 use Rattle.ap_octal.specs.DdEffect.{dd_effect}
 use Rattle.ap_octal.specs.DdPlace.{short_number}
@@ -28,15 +29,10 @@ use Rattle.ap_shell.specs.declared.types.Outcome.{Outcome}
 use Rattle.ap_shell.specs.declared.types.Outcome.TheVariants.{Execs}
 use Rattle.ap_shell.specs.declared.state.State.{State}
 use Rattle.ap_shparse.specs.declared.tree.Chain.{Chain}
-use Rattle.ap_dispatch.specs.Tree.{chmod_item, copy_items, cp_item, dd_item, start_item, statement_item}
+use Rattle.ap_dispatch.proofs.Tree.{chmod_item, copy_items, cp_item, dd_item, start_item, statement_item}
 use Rattle.ap_dispatch.proofs.Opened.{chmod_opened, chmod_words, cp_opened, cp_words, dd_opened, dd_words, exit_with, onto_copy, opened, printf_words, start_opened, start_words, statement_opened, to_null}
 use Rattle.ap_dispatch.proofs.FileFacts.{at_named, chmod_is, cp_is, exec_is, host_named, inserted, inserted_twice, itself, null_kept, printf_is, with_named}
 use Rattle.ap_dispatch.proofs.Stopping.{Stops, stops_later, stops_now}
-use Rattle.ap_dispatch.proofs.Testing.{append_nil}
-
-pub append_list : (t : List Text) → t ++ [] ≡ t
-append_list [] = refl
-append_list (b ∷ t) = ap (λ u. b ∷ u) (append_list t)
 
 -- the state after a utility that ends well
 abbrev pub after : State → FileMap → State
@@ -49,11 +45,11 @@ Went s files = (None, after s files)
 
 cp_runs : (env : Env) (s : State) (t : Text) (files : FileMap) → value_of (codes "t") s.vars ≡ t → env.fails ≡ [] → cp (env.zero ∷ t ∷ []) s.host.files ≡ (plain 0, files)
     → simply env (cp_words env) [] [] false s ≡ Went s files
-cp_runs env s t files t_is none is = rw (append_nil env.zero, append_nil (value_of (codes "t") s.vars), t_is, none, is) refl
+cp_runs env s t files t_is none is = rw (append-nil env.zero, append-nil (value_of (codes "t") s.vars), t_is, none, is) refl
 
 chmod_runs : (env : Env) (s : State) (t : Text) (files : FileMap) → value_of (codes "t") s.vars ≡ t → env.fails ≡ [] → chmod (codes "700" ∷ t ∷ []) s.host.files ≡ (plain 0, files)
     → simply env chmod_words [] [] false s ≡ Went s files
-chmod_runs env s t files t_is none is = rw (append_nil (value_of (codes "t") s.vars), t_is, none, is) refl
+chmod_runs env s t files t_is none is = rw (append-nil (value_of (codes "t") s.vars), t_is, none, is) refl
 
 -- what is printed into the copy
 abbrev written_to : Text → HostFile → Text → FileMap → FileMap
@@ -63,23 +59,23 @@ printf_runs : (env : Env) (s : State) (t octals : Text) (f : HostFile) (b : ℕ)
     → file_at t s.host.files ≡ Some f → is_null t ≡ false → printf (octals ∷ []) ≡ printing (b ∷ bytes)
     → simply env (printf_words octals) (onto_copy ∷ []) [] false s ≡ Went s (written_to t f (b ∷ bytes) s.host.files)
 printf_runs env s t octals f b bytes t_is none there named is =
-    rw (append_nil (value_of (codes "t") s.vars), append_nil octals, t_is, append_nil t, named, there, none, is, there) refl
+    rw (append-nil (value_of (codes "t") s.vars), append-nil octals, t_is, append-nil t, named, there, none, is, there) refl
 
 printf_nothing : (env : Env) (s : State) (t octals : Text) (f : HostFile) → value_of (codes "t") s.vars ≡ t → env.fails ≡ []
     → file_at t s.host.files ≡ Some f → is_null t ≡ false → printf (octals ∷ []) ≡ printing []
     → simply env (printf_words octals) (onto_copy ∷ []) [] false s ≡ Went s s.host.files
 printf_nothing env s t octals f t_is none there named is =
-    rw (append_nil (value_of (codes "t") s.vars), append_nil octals, t_is, append_nil t, named, there, none, is) refl
+    rw (append-nil (value_of (codes "t") s.vars), append-nil octals, t_is, append-nil t, named, there, none, is) refl
 
 dd_runs : (env : Env) (s : State) (t : Text) (skip count : ℕ) (files : FileMap) → value_of (codes "t") s.vars ≡ t → env.fails ≡ []
     → dd ((codes "if=" ++ t) ∷ (codes "of=" ++ t) ∷ codes "bs=8" ∷ (codes "skip=" ++ decimal skip) ∷ (codes "count=" ++ decimal count) ∷ codes "conv=notrunc" ∷ []) s.host.files ≡ (plain 0, files)
     → simply env (dd_words skip count) (to_null 2 ∷ []) [] false s ≡ Went s files
 dd_runs env s t skip count files t_is none is =
-    rw (append_nil (value_of (codes "t") s.vars), append_nil (decimal skip), append_nil (decimal count), t_is, none, null_kept, is) refl
+    rw (append-nil (value_of (codes "t") s.vars), append-nil (decimal skip), append-nil (decimal count), t_is, none, null_kept, is) refl
 
 start_runs : (env : Env) (s : State) (t : Text) → value_of (codes "t") s.vars ≡ t → exec env.ape (t ∷ env.args) s.host.files ≡ stopping (Execs t env.args)
     → simply env (start_words env) [] [] false s ≡ (Some (Execs t env.args), record { vars = s.vars; host = s.host; status = 0; calls = s.calls; inner = 0 })
-start_runs env s t t_is is = rw (append_nil (value_of (codes "t") s.vars), append_list env.args, t_is, is) refl
+start_runs env s t t_is is = rw (append-nil (value_of (codes "t") s.vars), append-nil env.args, t_is, is) refl
 
 dd_is : (t : Text) (f : HostFile) (skip count : ℕ) (files : FileMap) → short_number (decimal skip) ≡ Some skip → short_number (decimal count) ≡ Some count → file_at t files ≡ Some f
     → dd ((codes "if=" ++ t) ∷ (codes "of=" ++ t) ∷ codes "bs=8" ∷ (codes "skip=" ++ decimal skip) ∷ (codes "count=" ++ decimal count) ∷ codes "conv=notrunc" ∷ []) files

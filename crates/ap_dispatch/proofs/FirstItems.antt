@@ -3,6 +3,7 @@ use Rattle.std.proofs.Common.{◌≡◌, ◌∙◌, ap, sym, refl, ℕ, List, []
 use Rattle.std.specs.Prelude.{Option, Some, None, ◌&&◌, unwrap_or}
 use Rattle.std.specs.Fmt.{decimal}
 use Rattle.std.specs.Str.{bytes_eq}
+use Rattle.std.proofs.lemmas.List.{append-nil}
 use Rattle.ap_shell.specs.Files.{Text, FileMap}
 use Rattle.ap_shell.specs.Ends.{plain, stopping}
 use Rattle.ap_shell.specs.TextCommands.{command_v, line, uname}
@@ -20,12 +21,10 @@ use Rattle.ap_shell.specs.declared.state.State.{State}
 use Rattle.ap_shell.specs.declared.state.Variable.{Variable}
 use Rattle.ap_shell.specs.declared.state.Sink.TheVariants.{Enclosing}
 use Rattle.ap_shparse.specs.declared.tree.Part.TheOpen.{Target-F}
-use Rattle.ap_dispatch.specs.Tree.{ape_item, ape_start, ape_test, copy_item, exit_item, opening_item, uname_item}
+use Rattle.ap_dispatch.proofs.Tree.{ape_item, ape_start, ape_test, copy_item, exit_item, opening_item, uname_item}
 use Rattle.ap_dispatch.proofs.Opened.{ape_start_opened, ape_start_words, ape_test_opened, ape_test_words, copy_opened, copy_value, exit_opened, exit_words, opening_opened, set_by, to_null, uname_opened, uname_within}
 use Rattle.ap_dispatch.proofs.FileFacts.{null_is, null_kept}
 use Rattle.ap_dispatch.proofs.Stopping.{Stops, if_passed, if_stops, stops_now}
-use Rattle.ap_dispatch.proofs.Testing.{append_nil}
-use Rattle.ap_dispatch.proofs.Copying.{append_list}
 
 -- ---- variables
 
@@ -77,7 +76,7 @@ missing_runs env s ape = rw (null_kept, ape, ape_missing) refl
 
 start_runs : (env : Env) (s : State) → env.ape ≡ true
     → simply env (ape_start_words env) [] [] false s ≡ (Some (Execs (codes "ape") (env.zero ∷ env.args)), with_status s 0)
-start_runs env s ape = rw (append_nil env.zero, append_list env.args, ape, ape_starts) refl
+start_runs env s ape = rw (append-nil env.zero, append-nil env.args, ape, ape_starts) refl
 
 pub ape_passed : (env : Env) (s : State) → env.ape ≡ false → chain_meaning env ape_item s ≡ (None, with_status s 0)
 ape_passed env s ape = if_passed env ape_test (ape_start ∷ []) s (with_status s 1)
@@ -111,7 +110,7 @@ delivered_all (b ∷ t) files = refl
 uname_runs : (env : Env) (name option answer : Text) (s : State) → env.fails ≡ [] → uname env (option ∷ []) ≡ line answer
     → set_by env (record { name = name; value = uname_within env option }) [] s ≡ (None, with_value (record s { calls = counted s }) name (trimmed answer))
 uname_runs env name option answer s none is =
-    rw (append_nil option, is, none, delivered_all, append_nil (trimmed (answer ++ 10 ∷ [])), append_nil (trimmed (answer ++ 10 ∷ [])), trimmed_line answer) refl
+    rw (append-nil option, is, none, delivered_all, append-nil (trimmed (answer ++ 10 ∷ [])), append-nil (trimmed (answer ++ 10 ∷ [])), trimmed_line answer) refl
 
 pub uname_goes : (env : Env) (name option answer : Text) (s : State) → env.fails ≡ [] → uname env (option ∷ []) ≡ line answer
     → chain_meaning env (uname_item name option) s ≡ (None, with_value (record s { calls = counted s }) name (trimmed answer))
@@ -132,7 +131,7 @@ copy_in directory pid = unless_empty directory (codes "/tmp") ++ (codes "/ape." 
 
 copy_runs : (env : Env) (directory : Text) (s : State) → value_of (codes "TMPDIR") s.vars ≡ directory
     → set_by env (record { name = codes "t"; value = copy_value env }) [] s ≡ (None, with_value s (codes "t") (copy_in directory env.pid))
-copy_runs env directory s is = rw (is, append_nil (decimal env.pid), append_nil (copy_in directory env.pid)) refl
+copy_runs env directory s is = rw (is, append-nil (decimal env.pid), append-nil (copy_in directory env.pid)) refl
 
 pub copy_goes : (env : Env) (directory : Text) (s : State) → value_of (codes "TMPDIR") s.vars ≡ directory
     → chain_meaning env copy_item s ≡ (None, with_value s (codes "t") (copy_in directory env.pid))
@@ -142,7 +141,7 @@ copy_goes env directory s is = ap (λ f. f s) (copy_opened env) ∙ copy_runs en
 
 exit_runs : (env : Env) (status : Text) (n : ℕ) (s : State) → ((last : ℕ) → exit (status ∷ []) last ≡ stopping (Exits n))
     → simply env (exit_words status) [] [] false s ≡ (Some (Exits n), with_status s 0)
-exit_runs env status n s is = rw (append_nil status, is s.status) refl
+exit_runs env status n s is = rw (append-nil status, is s.status) refl
 
 pub exit_stops : (env : Env) (status : Text) (n : ℕ) (s : State) → ((last : ℕ) → exit (status ∷ []) last ≡ stopping (Exits n))
     → Stops (chain_meaning env (exit_item status) s) (Exits n, s.host)

@@ -1,11 +1,12 @@
+pub mod Tree
 pub mod Equations
 pub mod Opened
 pub mod FileFacts
 pub mod Stopping
 pub mod Testing
 pub mod Copying
-pub mod FirstItems
 pub mod CopyNames
+pub mod FirstItems
 pub mod SystemItems
 pub mod ScriptMeaning
 pub mod ReadLines

@@ -1,4 +1,4 @@
--- A file that begins with a block is a script, whether NUL bytes are kept or dropped.
+-- A file that begins with the text for a shell is a script, whether NUL bytes are kept or dropped.
 use Rattle.std.proofs.Common.{◌≡◌, ◌≢◌, ◌∙◌, ap, sym, subst, refl, ℕ, zero, suc, ◌+◌, ◌-◌, ◌/◌, ◌%◌, ◌<◌, ◌≤◌, ◌^◌, ◌==◌, ◌&&◌, not, List, [], ◌∷◌, ◌++◌, Bool, true, false, cond, codes, length, get_or, arith, append_assoc}
 use Rattle.std.specs.Prelude.{Option, Some, None, IfSome, Ok}
 use Rattle.std.specs.Option.{is_some}
@@ -72,9 +72,9 @@ delimits number body nowhere = record {
 abbrev pub quoted_text : Options → Text
 quoted_text options = zeros 51 ++ headers_place options
 
-flat_block : (m n z h q d e b s p r : Text)
-    → ((((m ++ n) ++ (z ++ (h ++ (q ++ (d ++ e))))) ++ (b ++ ((n ++ (d ++ n)) ++ s))) ++ p) ++ r ≡ m ++ (n ++ ((z ++ h) ++ (q ++ (d ++ (e ++ (b ++ (n ++ (d ++ (n ++ (s ++ (p ++ r)))))))))))
-flat_block m n z h q d e b s p r = simp append_assoc refl
+flat_text : (m n z h q d e b s r : Text)
+    → (((m ++ n) ++ (z ++ (h ++ (q ++ (d ++ e))))) ++ (b ++ ((n ++ (d ++ n)) ++ s))) ++ r ≡ m ++ (n ++ ((z ++ h) ++ (q ++ (d ++ (e ++ (b ++ (n ++ (d ++ (n ++ (s ++ r))))))))))
+flat_text m n z h q d e b s r = simp append_assoc refl
 
 magic_is : (windows debug : Bool) (t : Text)
     → cond windows (codes "MZqFpD='") (cond debug (codes "APEDBG='") (codes "jartsr='")) ++ (codes "\n" ++ t) ≡ magic_name windows debug ++ (codes "='\n" ++ t)
@@ -82,22 +82,17 @@ magic_is true debug t = refl
 magic_is false true t = refl
 magic_is false false t = refl
 
--- what stands behind the script
-abbrev pub behind_script : Options → List Taken → Positions → Text → Text
-behind_script options inputs l rest = (spaces (WINDOW - length (shell_text options inputs l)) ++ zeros (BLOCK - WINDOW)) ++ rest
-
-block_is : (options : Options) (inputs : List Taken) (l : Positions) (rest : Text)
-    → block_of options inputs l ++ rest
+text_is : (options : Options) (inputs : List Taken) (l : Positions) (rest : Text)
+    → shell_text options inputs l ++ rest
       ≡ opening_text (magic_name (for_windows options) options.debug) (quoted_text options) (delimiter (delimiter_number (body_of options inputs l))) (body_of options inputs l)
-        (script_for options inputs l ++ behind_script options inputs l rest)
-unfolding block_of shell_text opening closing
-block_is options inputs l rest =
+        (script_for options inputs l ++ rest)
+unfolding shell_text opening closing
+text_is options inputs l rest =
     let d = delimiter (delimiter_number (body_of options inputs l)) in
     let b = body_of options inputs l in
     let s = script_for options inputs l in
-    let p = spaces (WINDOW - length (shell_text options inputs l)) ++ zeros (BLOCK - WINDOW) in
-    flat_block (magic options) (codes "\n") (zeros 51) (headers_place options) (codes "' <<'") d (codes "'\n") b s p rest
-    ∙ magic_is (for_windows options) options.debug (quoted_text options ++ (codes "' <<'" ++ (d ++ (codes "'\n" ++ (b ++ (codes "\n" ++ (d ++ (codes "\n" ++ (s ++ (p ++ rest))))))))))
+    flat_text (magic options) (codes "\n") (zeros 51) (headers_place options) (codes "' <<'") d (codes "'\n") b s rest
+    ∙ magic_is (for_windows options) options.debug (quoted_text options ++ (codes "' <<'" ++ (d ++ (codes "'\n" ++ (b ++ (codes "\n" ++ (d ++ (codes "\n" ++ (s ++ rest)))))))))
 
 -- ---- without NUL
 
@@ -164,20 +159,20 @@ items_for nul.Drop options inputs l =
     all_items (magic_name (for_windows options) options.debug) (without_nul (quoted_text options)) (without_nul (body_of options inputs l)) options.systems
     (header_for X64 (placed_inputs inputs l)) (header_for A64 (placed_inputs inputs l)) (l.mach_at / 8) (l.mach_len / 8)
 
-pub linked_script : (n : Nul) (options : Options) (inputs : List Taken) (l : Positions) (rest : Text) → Fits options inputs l → inputs ≢ []
-    → IsScript n (block_of options inputs l ++ rest) (items_for n options inputs l)
-linked_script nul.Keep options inputs l rest fits some =
+pub text_script : (n : Nul) (options : Options) (inputs : List Taken) (l : Positions) (rest : Text) → Fits options inputs l → inputs ≢ []
+    → IsScript n (shell_text options inputs l ++ rest) (items_for n options inputs l)
+text_script nul.Keep options inputs l rest fits some =
     let ps = placed_inputs inputs l in
     let body = body_of options inputs l in
     let long = length-body options inputs l fits in
     let most = fits.body in
     let units = small-units options inputs l fits in
     let free = free-delimiter body (omega arith) in
-    ap script (block_is options inputs l rest)
+    ap script (text_is options inputs l rest)
     ∙ text_reads (for_windows options) options.debug (quoted_text options) (delimiter (delimiter_number body)) body options.systems (header_for X64 ps) (header_for A64 ps) (l.mach_at / 8) (l.mach_len / 8)
-      (behind_script options inputs l rest) (quiet_by (for_windows options)) (delimits (delimiter_number body) body (λ f m e. free.kept (f, m, e)))
+      (rest) (quiet_by (for_windows options)) (delimits (delimiter_number body) body (λ f m e. free.kept (f, m, e)))
       (bytes_by X64 (header_for X64 ps) (header-is X64 ps)) (bytes_by A64 (header_for A64 ps) (header-is A64 ps)) (some_header ps (λ e. some (sym fits.all ∙ e))) (omega arith) (omega arith)
-linked_script nul.Drop options inputs l rest fits some =
+text_script nul.Drop options inputs l rest fits some =
     let ps = placed_inputs inputs l in
     let body = body_of options inputs l in
     let d = delimiter (delimiter_number body) in
@@ -187,11 +182,11 @@ linked_script nul.Drop options inputs l rest fits some =
     let most = fits.body in
     let units = small-units options inputs l fits in
     let free = free-delimiter body (omega arith) in
-    ap (λ t. script (without_nul t)) (block_is options inputs l rest)
-    ∙ ap script (dropped (for_windows options) options.debug (quoted_text options) d body (script_text ++ behind_script options inputs l rest) (free_delimiter (delimiter_number body)))
+    ap (λ t. script (without_nul t)) (text_is options inputs l rest)
+    ∙ ap script (dropped (for_windows options) options.debug (quoted_text options) d body (script_text ++ rest) (free_delimiter (delimiter_number body)))
     ∙ ap (λ t. script (opening_text name (without_nul (quoted_text options)) d (without_nul body) t))
-      (free_front script_text (behind_script options inputs l rest)
+      (free_front script_text (rest)
       (free_script options.systems (header_for X64 ps) (header_for A64 ps) (l.mach_at / 8) (l.mach_len / 8) (omega arith) (omega arith)))
     ∙ text_reads (for_windows options) options.debug (without_nul (quoted_text options)) d (without_nul body) options.systems (header_for X64 ps) (header_for A64 ps) (l.mach_at / 8) (l.mach_len / 8)
-      (without_nul (behind_script options inputs l rest)) (quiet_without_nul (for_windows options)) (delimits (delimiter_number body) (without_nul body) (λ f m e. free.dropped (f, m, e)))
+      (without_nul rest) (quiet_without_nul (for_windows options)) (delimits (delimiter_number body) (without_nul body) (λ f m e. free.dropped (f, m, e)))
       (bytes_by X64 (header_for X64 ps) (header-is X64 ps)) (bytes_by A64 (header_for A64 ps) (header-is A64 ps)) (some_header ps (λ e. some (sym fits.all ∙ e))) (omega arith) (omega arith)

@@ -11,7 +11,7 @@ use Rattle.ap_shell.specs.Simples.{target_means}
 use Rattle.ap_shell.specs.declared.types.Env.{Env}
 use Rattle.ap_shparse.specs.declared.tree.Chain.{Chain}
 use Rattle.ap_shparse.specs.declared.tree.Part.TheOpen.{Target-F}
-use Rattle.ap_dispatch.specs.Tree.{ape_start, ape_test, chmod_item, copy_item, cp_item, dd_item, equals, exit_item, if_item, is_any, opening_item, or_else, start_item, statement_item, text, uname_item, variable}
+use Rattle.ap_dispatch.proofs.Tree.{ape_start, ape_test, chmod_item, copy_item, cp_item, dd_item, equals, exit_item, if_item, is_any, opening_item, or_else, start_item, statement_item, text, uname_item, variable}
 use Rattle.ap_dispatch.proofs.Equations.{chain_is, layers}
 
 -- ---- words and redirections

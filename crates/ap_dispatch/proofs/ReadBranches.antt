@@ -8,7 +8,7 @@ use Rattle.ap_shparse.specs.Commands.{alone}
 use Rattle.ap_shparse.specs.Lists.{Lists, chain, choice, command, items, items_from, list, next_item, otherwise, others}
 use Rattle.ap_shparse.specs.Scripts.{script_from, turn}
 use Rattle.ap_shparse.specs.declared.tree.Chain.{Chain}
-use Rattle.ap_dispatch.specs.Tree.{chmod_item, copy_items, cp_item, if_item, start_item}
+use Rattle.ap_dispatch.proofs.Tree.{chmod_item, copy_items, cp_item, if_item, start_item}
 use Rattle.ap_dispatch.proofs.ReadLines.{Ends, chmod_reads, cp_reads, end_reads, start_reads}
 
 -- ---- `if`

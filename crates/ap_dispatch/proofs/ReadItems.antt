@@ -15,7 +15,7 @@ use Rattle.ap_shparse.specs.declared.tree.Chain.{Chain}
 use Rattle.ap_shparse.specs.declared.tree.Part.TheVariants as part
 use Rattle.ap_shparse.specs.declared.tree.Simple.{Simple}
 use Rattle.ap_shparse.proofs.QuotedTexts.{lacks}
-use Rattle.ap_dispatch.specs.Tree.{copy_items, dd_item, if_item, statement_item}
+use Rattle.ap_dispatch.proofs.Tree.{copy_items, dd_item, if_item, statement_item}
 use Rattle.ap_dispatch.proofs.ReadLines.{Ends, chmod_reads, cp_reads, end_reads, start_reads}
 use Rattle.ap_dispatch.proofs.ReadWords.{AreDigits, decimal_digits, quoted_word, units_digits}
 

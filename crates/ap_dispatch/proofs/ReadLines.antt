@@ -10,7 +10,7 @@ use Rattle.ap_shparse.specs.Commands.{alone, assigned, element, elements, is_res
 use Rattle.ap_shparse.specs.Lists.{Lists, chain, choice, command, items, items_from, join, list, next_item, otherwise, others}
 use Rattle.ap_shparse.specs.Scripts.{script_from, turn}
 use Rattle.ap_shparse.specs.declared.tree.Chain.{Chain}
-use Rattle.ap_dispatch.specs.Tree.{ape_start, ape_test, chmod_item, copy_item, cp_item, exit_item, is_any, start_item, system_test, uname_item}
+use Rattle.ap_dispatch.proofs.Tree.{ape_start, ape_test, chmod_item, copy_item, cp_item, exit_item, is_any, start_item, system_test, uname_item}
 
 -- ---- items of a list; the first one stands behind the newline of `then`
 

@@ -16,7 +16,7 @@ use Rattle.ap_shparse.specs.Scripts.{script, script_from, turn}
 use Rattle.ap_shparse.specs.declared.tree.Chain.{Chain}
 use Rattle.ap_shparse.specs.declared.tree.Simple.{Simple}
 use Rattle.ap_shparse.proofs.QuotedTexts.{StandsNowhere, body_reads, delimiter_reads, lacks}
-use Rattle.ap_dispatch.specs.Tree.{opening_item, script_items}
+use Rattle.ap_dispatch.proofs.Tree.{opening_item, script_items}
 use Rattle.ap_dispatch.proofs.ReadLines.{Ends}
 use Rattle.ap_dispatch.proofs.ReadWords.{quoted_word}
 use Rattle.ap_dispatch.proofs.ReadScript.{HasBytes}
@@ -40,9 +40,6 @@ here_reads sub d body rest is =
 drop_all : (t u : Text) (n : ℕ) → n ≡ length t → drop n (t ++ u) ≡ u
 drop_all [] u n e = ap (λ k. drop k u) e
 drop_all (c ∷ t) u n e = ap (λ k. drop k (c ∷ (t ++ u))) e ∙ drop_all t u (length t) refl
-
-last_is : (t u : Text) → last (length (10 ∷ u) - 1) (t ++ 10 ∷ u) ≡ 10 ∷ u → last (length (10 ∷ u) - 1) (t ++ 10 ∷ u) ≡ 10 ∷ u
-last_is t u e = e
 
 behind_is : (body d rest : Text) → last (length (10 ∷ rest) - 1) (body ++ 10 ∷ (d ++ 10 ∷ rest)) ≡ rest
 behind_is body d rest =

@@ -11,7 +11,7 @@ use Rattle.ap_shparse.specs.Bytes.{Text}
 use Rattle.ap_shparse.specs.Commands.{alone}
 use Rattle.ap_shparse.specs.Lists.{Lists, items_from, list}
 use Rattle.ap_shparse.specs.declared.tree.Chain.{Chain}
-use Rattle.ap_dispatch.specs.Tree.{ape_item, ape_start, ape_test, copy_item, copy_items, darwin_item, darwin_x64_items, dd_item, exit_item, if_item, is_any, machine_items, script_items, system_items, system_test, systems_item, uname_item}
+use Rattle.ap_dispatch.proofs.Tree.{ape_item, ape_start, ape_test, copy_item, copy_items, darwin_item, darwin_x64_items, dd_item, exit_item, if_item, is_any, machine_items, script_items, system_items, system_test, systems_item, uname_item}
 use Rattle.ap_dispatch.proofs.ReadLines.{Ends, ape_reads, ape_test_reads, copy_reads, darwin_test_reads, end_reads, exit_reads, first_exit_reads, last_reads, mac_machine_test_reads, machine_reads, system_reads}
 use Rattle.ap_dispatch.proofs.ReadItems.{dd_reads}
 use Rattle.ap_dispatch.proofs.ReadBranches.{IsIf, copy_lines, copy_list, if_ends, if_first_step, if_reads, list_reads}

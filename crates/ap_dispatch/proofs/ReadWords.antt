@@ -5,6 +5,7 @@ use Rattle.std.specs.Fmt.{decimal}
 use Rattle.std.proofs.lemmas.Bool.{and_parts, not-true}
 use Rattle.std.proofs.lemmas.Bool.Decides.{nat_tests}
 use Rattle.std.proofs.lemmas.Fmt.{decimal_by_steps, decimal_nonempty, length-decimal-le}
+use Rattle.std.proofs.lemmas.List.{append-nil}
 use Rattle.ap_octal.specs.DdPlace.{is_digit, short_number, with_digits}
 use Rattle.ap_script.proofs.Quotes.{has_no_quote}
 use Rattle.ap_shparse.specs.Bytes.{Text, ends_word, is_plain}
@@ -12,7 +13,6 @@ use Rattle.ap_shparse.specs.Reads.{Outcome}
 use Rattle.ap_shparse.specs.Pieces.{none_found, outside, pieces, plain, single, unit, units, with_bytes}
 use Rattle.ap_shparse.specs.declared.tree.Simple.{Simple}
 use Rattle.ap_shparse.proofs.QuotedTexts.{lacks, single_reads}
-use Rattle.ap_dispatch.proofs.Testing.{append_nil}
 
 -- ---- single quotes
 
@@ -66,7 +66,7 @@ digit_step sub k (suc (suc (suc (suc (suc (suc (suc (suc (suc (suc n)))))))))) t
 
 pub units_digits : (sub : Text → Outcome Text Simple) (ds t u : Text) → AreDigits ds
     → units sub (length (ds ++ 32 ∷ u)) (with_bytes none_found t) (ds ++ 32 ∷ u) ≡ Some (with_bytes none_found (t ++ ds), 32 ∷ u)
-units_digits sub [] t u all = units_end sub (suc (length u)) t u ∙ ap (λ v. Some (with_bytes none_found v, 32 ∷ u)) (sym (append_nil t))
+units_digits sub [] t u all = units_end sub (suc (length u)) t u ∙ ap (λ v. Some (with_bytes none_found v, 32 ∷ u)) (sym (append-nil t))
 units_digits sub (c ∷ ds) t u all =
     ap (λ d. units sub (suc (length (ds ++ 32 ∷ u))) (with_bytes none_found t) (d ∷ (ds ++ 32 ∷ u))) all.2
     ∙ digit_step sub (length (ds ++ 32 ∷ u)) all.0 t (ds ++ 32 ∷ u) all.1

@@ -18,7 +18,7 @@ use Rattle.ap_shell.specs.declared.state.State.{State}
 use Rattle.ap_shell.specs.declared.state.Variable.{Variable}
 use Rattle.ap_shparse.specs.declared.tree.Chain.{Chain}
 use Rattle.ap_dispatch.specs.Dispatch.{IsReady, by_header, by_mach, copy_name, dispatch, is_one_of, machine_name, named_header, system_name}
-use Rattle.ap_dispatch.specs.Tree.{ape_item, copy_item, opening_item, script_items, system_items, uname_item}
+use Rattle.ap_dispatch.proofs.Tree.{ape_item, copy_item, opening_item, script_items, system_items, uname_item}
 use Rattle.ap_dispatch.proofs.Stopping.{Stops, finishes, stops_if, stops_later, stops_now}
 use Rattle.ap_dispatch.proofs.FirstItems.{ape_passed, ape_stops, copy_goes, first_value, machine_is, opening_goes, system_is, uname_goes, value_after, with_value}
 use Rattle.ap_dispatch.proofs.SystemItems.{AreShort, IsSpelled, Knows, systems_stop}

@@ -8,7 +8,7 @@ use Rattle.ap_shell.specs.declared.types.Host.{Host}
 use Rattle.ap_shell.specs.declared.types.Outcome.{Outcome}
 use Rattle.ap_shell.specs.declared.state.State.{State}
 use Rattle.ap_shparse.specs.declared.tree.Chain.{Chain}
-use Rattle.ap_dispatch.specs.Tree.{if_item}
+use Rattle.ap_dispatch.proofs.Tree.{if_item}
 use Rattle.ap_dispatch.proofs.Opened.{if_opened}
 
 -- the script stops with this outcome, and leaves this host

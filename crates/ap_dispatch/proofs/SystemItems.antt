@@ -27,7 +27,7 @@ use Rattle.ap_shell.specs.declared.types.Outcome.TheVariants.{Execs, Exits}
 use Rattle.ap_shell.specs.declared.state.State.{State}
 use Rattle.ap_shparse.specs.declared.tree.Chain.{Chain}
 use Rattle.ap_dispatch.specs.Dispatch.{IsReady, by_header, by_mach, copy_name, is_name_of, is_one_of, machine_name, named_header, runs_copy, system_name, with_copy}
-use Rattle.ap_dispatch.specs.Tree.{copy_items, darwin_item, darwin_x64_items, dd_item, exit_item, if_item, is_any, machine_items, statement_item, system_items, system_test, systems_item}
+use Rattle.ap_dispatch.proofs.Tree.{copy_items, darwin_item, darwin_x64_items, dd_item, exit_item, if_item, is_any, machine_items, statement_item, system_items, system_test, systems_item}
 use Rattle.ap_dispatch.proofs.FileFacts.{at_host, differ}
 use Rattle.ap_dispatch.proofs.Stopping.{Stops, if_goes, if_passed, if_stops, stops_by, stops_if, stops_later, stops_now}
 use Rattle.ap_dispatch.proofs.Testing.{holds, is_any_goes, system_test_goes, tested}

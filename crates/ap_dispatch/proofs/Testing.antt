@@ -2,6 +2,7 @@
 use Rattle.std.proofs.Common.{◌≡◌, ◌∙◌, ap, sym, refl, ℕ, List, [], ◌∷◌, ◌++◌, ◌==◌, Bool, true, false, codes, map}
 use Rattle.std.specs.Prelude.{Option, Some, None, ◌||◌}
 use Rattle.std.specs.Str.{bytes_eq}
+use Rattle.std.proofs.lemmas.List.{append-nil}
 use Rattle.ap_shell.specs.Files.{Text}
 use Rattle.ap_shell.specs.Ends.{holding}
 use Rattle.ap_shell.specs.Steps.{unless_ended}
@@ -12,13 +13,9 @@ use Rattle.ap_shell.specs.Meaning.{Joins, chain_meaning, joined_meaning, joined_
 use Rattle.ap_shell.specs.declared.types.Env.{Env}
 use Rattle.ap_shell.specs.declared.state.State.{State}
 use Rattle.ap_dispatch.specs.Dispatch.{is_one_of}
-use Rattle.ap_dispatch.specs.Tree.{equals, is_any, or_else, system_test, text, variable}
+use Rattle.ap_dispatch.proofs.Tree.{equals, is_any, or_else, system_test, text, variable}
 use Rattle.ap_dispatch.proofs.Equations.{chain_is, joined_is}
 use Rattle.ap_dispatch.proofs.Opened.{equals_opened, equals_text_opened, equals_words, is_any_opened, of_variable, said}
-
-pub append_nil : (t : Text) → t ++ [] ≡ t
-append_nil [] = refl
-append_nil (b ∷ t) = ap (λ u. b ∷ u) (append_nil t)
 
 -- the state after a test
 abbrev pub tested : State → Bool → State
@@ -30,7 +27,7 @@ test_is value name = refl
 
 equals_runs : (env : Env) (var name value : Text) (s : State) → value_of var s.vars ≡ value
     → simply env (equals_words (of_variable var) name) [] [] false s ≡ (None, tested s (bytes_eq value name))
-equals_runs env var name value s is = rw (append_nil (value_of var s.vars), append_nil name, is, test_is value name) refl
+equals_runs env var name value s is = rw (append-nil (value_of var s.vars), append-nil name, is, test_is value name) refl
 
 equals_goes : (env : Env) (var name value : Text) (s : State) → value_of var s.vars ≡ value → node_meaning env (equals (variable var) name) s ≡ (None, tested s (bytes_eq value name))
 equals_goes env var name value s is = ap (λ f. f s) (equals_opened env var name) ∙ equals_runs env var name value s is
