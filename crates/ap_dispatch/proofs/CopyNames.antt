@@ -1,8 +1,7 @@
 -- The copy's name begins with `/` and isn't `/dev/null`.
-use Rattle.std.proofs.Common.{◌≡◌, ◌∙◌, ap, sym, refl, ℕ, List, [], ◌∷◌, ◌++◌, ◌==◌, Bool, true, false, codes, get_or}
+use Rattle.std.proofs.Common.{◌≡◌, ◌∙◌, ap, sym, refl, ℕ, [], ◌∷◌, ◌++◌, ◌==◌, Bool, true, false, codes, get_or}
 use Rattle.std.specs.Prelude.{Option, Some, None, is_none, not, slice_get, unwrap_or}
 use Rattle.std.specs.Fmt.{decimal}
-use Rattle.std.specs.Str.{bytes_eq}
 use Rattle.ap_shell.specs.Files.{Text}
 use Rattle.ap_shell.specs.Places.{is_null}
 use Rattle.ap_shell.specs.FileCommands.{begins_with}

@@ -1,6 +1,6 @@
 -- What the lines that copy the file do: `cp`, `chmod`, a command that writes over the copy's first bytes, and `exec`.
-use Rattle.std.proofs.Common.{◌≡◌, ◌∙◌, ap, sym, refl, ℕ, List, [], ◌∷◌, ◌++◌, ◌==◌, Bool, true, false, codes, map, cond}
-use Rattle.std.specs.Prelude.{Option, Some, None, ◌||◌}
+use Rattle.std.proofs.Common.{◌≡◌, ◌∙◌, ap, sym, refl, ℕ, List, [], ◌∷◌, ◌++◌, true, false, codes, map}
+use Rattle.std.specs.Prelude.{Option, Some, None}
 use Rattle.std.specs.FinMap as fin
 use Rattle.std.specs.Fmt.{decimal}
 use Rattle.std.specs.Str.{bytes_eq}
@@ -10,7 +10,7 @@ use Rattle.ap_octal.specs.DdEffect.{dd_effect}
 use Rattle.ap_octal.specs.DdPlace.{short_number}
 use Rattle.ap_octal.specs.OctalReading.{octal_bytes_of}
 use Rattle.ap_shell.specs.Files.{Text, FileMap}
-use Rattle.ap_shell.specs.Places.{bytes_or_none, file_at, host_file, is_null, mode_or, with_file}
+use Rattle.ap_shell.specs.Places.{file_at, is_null, mode_or, with_file}
 use Rattle.ap_shell.specs.Ends.{plain, printing, stopping}
 use Rattle.ap_shell.specs.FileCommands.{begins_with, chmod, cp}
 use Rattle.ap_shell.specs.DdCommand.{dd}
@@ -21,7 +21,6 @@ use Rattle.ap_shell.specs.Redirecting.{Redirects}
 use Rattle.ap_shell.specs.Words.{value_of}
 use Rattle.ap_shell.specs.Obeying.{counted, simply}
 use Rattle.ap_shell.specs.Meaning.{chain_meaning, in_turn, joined_on}
-use Rattle.ap_shell.specs.declared.done.Done.{Done}
 use Rattle.ap_shell.specs.declared.map.HostFile.{HostFile}
 use Rattle.ap_shell.specs.declared.types.Env.{Env}
 use Rattle.ap_shell.specs.declared.types.Host.{Host}
@@ -79,7 +78,7 @@ start_runs env s t t_is is = rw (append-nil (value_of (codes "t") s.vars), appen
 
 dd_is : (t : Text) (f : HostFile) (skip count : ℕ) (files : FileMap) → short_number (decimal skip) ≡ Some skip → short_number (decimal count) ≡ Some count → file_at t files ≡ Some f
     → dd ((codes "if=" ++ t) ∷ (codes "of=" ++ t) ∷ codes "bs=8" ∷ (codes "skip=" ++ decimal skip) ∷ (codes "count=" ++ decimal count) ∷ codes "conv=notrunc" ∷ []) files
-      ≡ (plain 0, with_file t (record { bytes = dd_effect (bytes_eq t t) 8 skip count f.bytes f.bytes; mode = f.mode }) files)
+    ≡ (plain 0, with_file t (record { bytes = dd_effect (bytes_eq t t) 8 skip count f.bytes f.bytes; mode = f.mode }) files)
 unfolding dd
 dd_is t f skip count files skip_is count_is there = rw (skip_is, count_is, there, there) refl
 
@@ -140,7 +139,7 @@ pub copies : (env : Env) (s : State) (t w bytes : Text) (mode : ℕ) (item : Cha
     → begins_with 45 env.zero ≡ false → bytes_eq env.zero t ≡ false → file_at env.zero s.host.files ≡ Some (record { bytes = w; mode = mode })
     → Overwrites env item t w bytes
     → Stops (in_turn (map (chain_meaning env) (copy_items item)) s)
-      (Execs t env.args, record { files = fin.insert s.host.files t (copy_of bytes); out = s.host.out })
+    (Execs t env.args, record { files = fin.insert s.host.files t (copy_of bytes); out = s.host.out })
 unfolding Overwrites
 copies env s t w bytes mode item t_is none name zero_plain apart there overwrites =
     let files = s.host.files in
@@ -152,9 +151,9 @@ copies env s t w bytes mode item t_is none name zero_plain apart there overwrite
     let s2 = after s1 files2 in
     let s3 = after s2 files3 in
     let e1 = item_goes env cp_item (cp_words env) [] (codes "121") s files1 (cp_opened env)
-        (cp_runs env s t files1 t_is none (cp_is env.zero t _ files zero_plain name.no_option apart there ∙ ap (λ fs. (plain 0, fs)) (with_named t f1 files name.named))) in
+    (cp_runs env s t files1 t_is none (cp_is env.zero t _ files zero_plain name.no_option apart there ∙ ap (λ fs. (plain 0, fs)) (with_named t f1 files name.named))) in
     let e2 = item_goes env chmod_item chmod_words [] (codes "122") s1 files2 (chmod_opened env)
-        (chmod_runs env s1 t files2 t_is none (chmod_is t f1 files1 (host_named t files1 name.named ∙ inserted t f1 files) ∙ ap (λ fs. (plain 0, fs)) (with_named t (copy_of w) files1 name.named))) in
+    (chmod_runs env s1 t files2 t_is none (chmod_is t f1 files1 (host_named t files1 name.named ∙ inserted t f1 files) ∙ ap (λ fs. (plain 0, fs)) (with_named t (copy_of w) files1 name.named))) in
     let e3 = overwrites s2 files1 t_is refl in
     let e4 = start_runs env s3 t t_is (exec_is env.ape t env.args (copy_of bytes) files3 name.slash (at_named t files3 name.named ∙ inserted t (copy_of bytes) files2) refl) in
     let end : Outcome × Host = (Execs t env.args, record { files = fin.insert files t (copy_of bytes); out = s.host.out }) in

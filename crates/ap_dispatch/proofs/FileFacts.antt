@@ -1,6 +1,6 @@
 -- What the files of a host answer, and what the utilities of the script do with them.
-use Rattle.std.proofs.Common.{◌≡◌, ◌≢◌, ◌∙◌, ap, sym, refl, ℕ, List, [], ◌∷◌, Bool, true, false, codes, cond}
-use Rattle.std.specs.Prelude.{Option, Some, None, ◌||◌}
+use Rattle.std.proofs.Common.{◌≡◌, ◌≢◌, ◌∙◌, ap, sym, refl, List, [], ◌∷◌, Bool, true, false, codes, cond}
+use Rattle.std.specs.Prelude.{Option, Some, None}
 use Rattle.std.specs.FinMap as fin
 use Rattle.std.specs.FinMap.{get-insert, same_map, slice_cmp-IsAntisymmetric, nat_cmp-IsAntisymmetric}
 use Rattle.std.specs.Cmp.Lexicographic.{texts_ties}
@@ -11,7 +11,7 @@ use Rattle.ap_octal.specs.OctalReading.{octal_bytes_of}
 use Rattle.ap_shell.specs.Files.{Text, FileMap}
 use Rattle.ap_shell.specs.Places.{file_at, host_file, is_null, mode_or, with_file}
 use Rattle.ap_shell.specs.Ends.{plain, printing, stopping}
-use Rattle.ap_shell.specs.FileCommands.{begins_with, chmod, copied, cp, refused}
+use Rattle.ap_shell.specs.FileCommands.{begins_with, chmod, cp}
 use Rattle.ap_shell.specs.TextCommands.{printed_if, printf}
 use Rattle.ap_shell.specs.EndCommands.{exec, has_slash, may_run}
 use Rattle.ap_shell.specs.declared.map.HostFile.{HostFile}

@@ -1,5 +1,5 @@
 -- What the script does before it tests the system: the magic's assignment, the test for `ape`, and the three variables.
-use Rattle.std.proofs.Common.{◌≡◌, ◌∙◌, ap, sym, refl, ℕ, List, [], ◌∷◌, ◌++◌, ◌==◌, Bool, true, false, codes, cond, map}
+use Rattle.std.proofs.Common.{◌≡◌, ◌∙◌, ap, refl, ℕ, List, [], ◌∷◌, ◌++◌, ◌==◌, true, false, codes, cond}
 use Rattle.std.specs.Prelude.{Option, Some, None, ◌&&◌, unwrap_or}
 use Rattle.std.specs.Fmt.{decimal}
 use Rattle.std.specs.Str.{bytes_eq}
@@ -12,7 +12,7 @@ use Rattle.ap_shell.specs.Steps.{unless_ended}
 use Rattle.ap_shell.specs.Words.{all_newlines, trimmed, unless_empty, value_among, value_of}
 use Rattle.ap_shell.specs.Obeying.{counted, delivered, simply}
 use Rattle.ap_shell.specs.Simples.{target_means}
-use Rattle.ap_shell.specs.Meaning.{at_first, chain_meaning, in_turn, joined_on}
+use Rattle.ap_shell.specs.Meaning.{at_first, chain_meaning, joined_on}
 use Rattle.ap_shell.specs.declared.types.Env.{Env}
 use Rattle.ap_shell.specs.declared.types.Host.{Host}
 use Rattle.ap_shell.specs.declared.types.Outcome.{Outcome}

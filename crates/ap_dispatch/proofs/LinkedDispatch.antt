@@ -1,5 +1,5 @@
 -- A file that begins with a block does what its dispatch table says.
-use Rattle.std.proofs.Common.{◌≡◌, ◌≢◌, append_assoc, refl, subst, sym, ℕ, ◌/◌, ◌<◌, ◌^◌, List, [], ◌∷◌, ◌++◌, Bool, true, false, codes, arith}
+use Rattle.std.proofs.Common.{◌≡◌, ◌≢◌, append_assoc, refl, subst, sym, ◌/◌, List, [], ◌∷◌, ◌++◌, Bool, true, false, codes, arith}
 use Rattle.std.specs.Str.{bytes_eq}
 use Rattle.ap_check.specs.declared.options.Options.{Options}
 use Rattle.ap_check.specs.Options.{for_windows}

@@ -1,10 +1,9 @@
 -- A file that begins with the text for a shell is a script, whether NUL bytes are kept or dropped.
-use Rattle.std.proofs.Common.{◌≡◌, ◌≢◌, ◌∙◌, ap, sym, subst, refl, ℕ, zero, suc, ◌+◌, ◌-◌, ◌/◌, ◌%◌, ◌<◌, ◌≤◌, ◌^◌, ◌==◌, ◌&&◌, not, List, [], ◌∷◌, ◌++◌, Bool, true, false, cond, codes, length, get_or, arith, append_assoc}
-use Rattle.std.specs.Prelude.{Option, Some, None, IfSome, Ok}
+use Rattle.std.proofs.Common.{◌≡◌, ◌≢◌, ◌∙◌, ap, sym, refl, ℕ, zero, suc, ◌+◌, ◌/◌, ◌%◌, ◌<◌, ◌==◌, not, List, [], ◌∷◌, ◌++◌, Bool, true, false, cond, codes, arith, append_assoc}
+use Rattle.std.specs.Prelude.{Option, Some, None, IfSome}
 use Rattle.std.specs.Option.{is_some}
 use Rattle.std.proofs.lemmas.Bool.{and_parts}
 use Rattle.std.proofs.lemmas.Bool.Decides.{nat_tests}
-use Rattle.ap_fields.specs.declared.sizes.TheConstants.{BLOCK, WINDOW}
 use Rattle.ap_fields.specs.Bytes.{zeros}
 use Rattle.ap_fields.specs.Fields.{bytes_of}
 use Rattle.ap_check.specs.declared.options.Options.{Options}
@@ -14,17 +13,15 @@ use Rattle.ap_elf.specs.declared.machine.Machine.{Machine}
 use Rattle.ap_elf.specs.declared.machine.Machine.TheVariants.{X64, A64}
 use Rattle.ap_elf.specs.Machines.{is_machine}
 use Rattle.ap_layout.specs.Positions.{Fits, PlacedInput, Positions, only_inputs, placed_inputs}
-use Rattle.ap_octal.specs.OctalReading.{octal_bytes_of}
 use Rattle.ap_octal.specs.Statement.{octals_of}
 use Rattle.ap_octal.proofs.OctalLemmas.{octal-bytes}
 use Rattle.ap_octal.proofs.OctalReads.{octal_bytes_of-some}
 use Rattle.ap_pe.specs.Claims.{place_bytes}
 use Rattle.ap_pe.specs.Linked.{headers_place}
-use Rattle.ap_script.specs.Blocks.{block_of, body_of, closing, magic, opening, opening_line, script_for, shell_text, spaces}
+use Rattle.ap_script.specs.Blocks.{body_of, closing, magic, opening, script_for, shell_text}
 use Rattle.ap_script.specs.Delimiter.{delimiter, delimiter_number, digits_of, without_nul}
 use Rattle.ap_script.specs.Script.{header_for}
 use Rattle.ap_script.specs.Tables.{embedded_bytes}
-use Rattle.ap_script.specs.Stands.{HasFreeDelimiter}
 use Rattle.ap_script.proofs.BlockParts.{length-body, small-units}
 use Rattle.ap_script.proofs.DelimiterWords.{free-delimiter, without_nul-append}
 use Rattle.ap_script.proofs.ScriptParts.{IsHeader, header-is}
@@ -84,8 +81,8 @@ magic_is false false t = refl
 
 text_is : (options : Options) (inputs : List Taken) (l : Positions) (rest : Text)
     → shell_text options inputs l ++ rest
-      ≡ opening_text (magic_name (for_windows options) options.debug) (quoted_text options) (delimiter (delimiter_number (body_of options inputs l))) (body_of options inputs l)
-        (script_for options inputs l ++ rest)
+    ≡ opening_text (magic_name (for_windows options) options.debug) (quoted_text options) (delimiter (delimiter_number (body_of options inputs l))) (body_of options inputs l)
+    (script_for options inputs l ++ rest)
 unfolding shell_text opening closing
 text_is options inputs l rest =
     let d = delimiter (delimiter_number (body_of options inputs l)) in
@@ -170,8 +167,8 @@ text_script nul.Keep options inputs l rest fits some =
     let free = free-delimiter body (omega arith) in
     ap script (text_is options inputs l rest)
     ∙ text_reads (for_windows options) options.debug (quoted_text options) (delimiter (delimiter_number body)) body options.systems (header_for X64 ps) (header_for A64 ps) (l.mach_at / 8) (l.mach_len / 8)
-      (rest) (quiet_by (for_windows options)) (delimits (delimiter_number body) body (λ f m e. free.kept (f, m, e)))
-      (bytes_by X64 (header_for X64 ps) (header-is X64 ps)) (bytes_by A64 (header_for A64 ps) (header-is A64 ps)) (some_header ps (λ e. some (sym fits.all ∙ e))) (omega arith) (omega arith)
+    (rest) (quiet_by (for_windows options)) (delimits (delimiter_number body) body (λ f m e. free.kept (f, m, e)))
+    (bytes_by X64 (header_for X64 ps) (header-is X64 ps)) (bytes_by A64 (header_for A64 ps) (header-is A64 ps)) (some_header ps (λ e. some (sym fits.all ∙ e))) (omega arith) (omega arith)
 text_script nul.Drop options inputs l rest fits some =
     let ps = placed_inputs inputs l in
     let body = body_of options inputs l in
@@ -185,8 +182,8 @@ text_script nul.Drop options inputs l rest fits some =
     ap (λ t. script (without_nul t)) (text_is options inputs l rest)
     ∙ ap script (dropped (for_windows options) options.debug (quoted_text options) d body (script_text ++ rest) (free_delimiter (delimiter_number body)))
     ∙ ap (λ t. script (opening_text name (without_nul (quoted_text options)) d (without_nul body) t))
-      (free_front script_text (rest)
-      (free_script options.systems (header_for X64 ps) (header_for A64 ps) (l.mach_at / 8) (l.mach_len / 8) (omega arith) (omega arith)))
+    (free_front script_text (rest)
+    (free_script options.systems (header_for X64 ps) (header_for A64 ps) (l.mach_at / 8) (l.mach_len / 8) (omega arith) (omega arith)))
     ∙ text_reads (for_windows options) options.debug (without_nul (quoted_text options)) d (without_nul body) options.systems (header_for X64 ps) (header_for A64 ps) (l.mach_at / 8) (l.mach_len / 8)
-      (without_nul rest) (quiet_without_nul (for_windows options)) (delimits (delimiter_number body) (without_nul body) (λ f m e. free.dropped (f, m, e)))
-      (bytes_by X64 (header_for X64 ps) (header-is X64 ps)) (bytes_by A64 (header_for A64 ps) (header-is A64 ps)) (some_header ps (λ e. some (sym fits.all ∙ e))) (omega arith) (omega arith)
+    (without_nul rest) (quiet_without_nul (for_windows options)) (delimits (delimiter_number body) (without_nul body) (λ f m e. free.dropped (f, m, e)))
+    (bytes_by X64 (header_for X64 ps) (header-is X64 ps)) (bytes_by A64 (header_for A64 ps) (header-is A64 ps)) (some_header ps (λ e. some (sym fits.all ∙ e))) (omega arith) (omega arith)

@@ -1,5 +1,5 @@
 -- The items of the script, each with the meanings of its parts in their places.
-use Rattle.std.proofs.Common.{◌≡◌, refl, ℕ, List, [], ◌∷◌, ◌++◌, Bool, true, false, codes, map}
+use Rattle.std.proofs.Common.{◌≡◌, refl, ℕ, List, [], ◌∷◌, ◌++◌, true, false, codes, map}
 use Rattle.std.specs.Fmt.{decimal}
 use Rattle.ap_shell.specs.Files.{Text}
 use Rattle.ap_shell.specs.Steps.{Action, Gives, unless_ended}

@@ -1,9 +1,8 @@
 -- `if` and the lists in it, read.
-use Rattle.std.proofs.Common.{◌≡◌, ◌∙◌, ap, sym, refl, ℕ, suc, ◌+◌, ◌<◌, ◌^◌, List, [], ◌∷◌, ◌++◌, Bool, true, false, codes, length, arith}
-use Rattle.std.specs.Prelude.{Option, Some, None, Ok}
-use Rattle.std.specs.Fmt.{decimal}
+use Rattle.std.proofs.Common.{◌≡◌, ◌∙◌, refl, ℕ, suc, List, [], ◌∷◌, ◌++◌, false, codes, length}
+use Rattle.std.specs.Prelude.{Some}
 use Rattle.ap_shparse.specs.Bytes.{Text, ends_word, gap, has, past_comment}
-use Rattle.ap_shparse.specs.Places.{Place, newlines, newlines_from}
+use Rattle.ap_shparse.specs.Places.{newlines, newlines_from}
 use Rattle.ap_shparse.specs.Commands.{alone}
 use Rattle.ap_shparse.specs.Lists.{Lists, chain, choice, command, items, items_from, list, next_item, otherwise, others}
 use Rattle.ap_shparse.specs.Scripts.{script_from, turn}

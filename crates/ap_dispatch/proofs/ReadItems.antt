@@ -1,22 +1,20 @@
 -- Items of the script that hold texts or other items, read.
-use Rattle.std.proofs.Common.{◌≡◌, ◌∙◌, ap, sym, refl, ℕ, suc, ◌+◌, ◌<◌, ◌^◌, List, [], ◌∷◌, ◌++◌, Bool, true, false, codes, length, arith}
-use Rattle.std.specs.Prelude.{Option, Some, None, Ok}
+use Rattle.std.proofs.Common.{◌≡◌, refl, ℕ, suc, ◌<◌, ◌^◌, List, [], ◌∷◌, ◌++◌, true, codes}
+use Rattle.std.specs.Prelude.{Some}
 use Rattle.std.specs.Fmt.{decimal}
 use Rattle.ap_shparse.specs.Bytes.{Text, ends_word, gap, has, is_plain, past_comment}
 use Rattle.ap_shparse.specs.Reads.{Outcome}
 use Rattle.ap_shparse.specs.Pieces.{dollar, escaped, inside, name, none_found, outside, pieces, plain, quoted, unit, units, variable, with_bytes, with_part}
-use Rattle.ap_shparse.specs.Places.{Place, newlines, newlines_from}
+use Rattle.ap_shparse.specs.Places.{newlines, newlines_from}
 use Rattle.ap_shparse.specs.Words.{begins_word, is_assignment, pieced, plain_word}
 use Rattle.ap_shparse.specs.Redirects.{file_word, next_operator, number, redirects, same, target_of}
 use Rattle.ap_shparse.specs.Commands.{alone, element, elements, is_reserved, next_word, redirection, simple, substitution}
-use Rattle.ap_shparse.specs.Lists.{Lists, chain, choice, command, items, items_from, join, list, next_item, otherwise, others}
-use Rattle.ap_shparse.specs.Scripts.{script_from, turn}
+use Rattle.ap_shparse.specs.Lists.{Lists, chain, command, items_from, join, next_item, others}
 use Rattle.ap_shparse.specs.declared.tree.Chain.{Chain}
 use Rattle.ap_shparse.specs.declared.tree.Part.TheVariants as part
 use Rattle.ap_shparse.specs.declared.tree.Simple.{Simple}
 use Rattle.ap_shparse.proofs.QuotedTexts.{lacks}
-use Rattle.ap_dispatch.proofs.Tree.{copy_items, dd_item, if_item, statement_item}
-use Rattle.ap_dispatch.proofs.ReadLines.{Ends, chmod_reads, cp_reads, end_reads, start_reads}
+use Rattle.ap_dispatch.proofs.Tree.{dd_item, statement_item}
 use Rattle.ap_dispatch.proofs.ReadWords.{AreDigits, decimal_digits, quoted_word, units_digits}
 
 -- ---- words
@@ -86,9 +84,19 @@ statement_reads below n found b octals rest h =
 
 pub dd_reads : (below : Lists) (n : ℕ) (found : List Chain) (skip count : ℕ) (rest : Text) → skip < 2 ^ 64 → count < 2 ^ 64
     → items_from below (suc n) found (alone (codes "dd if=\"$t\" of=\"$t\" bs=8 skip=" ++ (decimal skip ++ (codes " count=" ++ (decimal count ++ (codes " conv=notrunc 2>/dev/null || exit 123\n" ++ rest))))))
-      ≡ items_from below n (found ++ dd_item skip count ∷ []) (alone rest)
+    ≡ items_from below n (found ++ dd_item skip count ∷ []) (alone rest)
 unfolding items_from next_item chain command others join newlines newlines_from simple is_reserved elements element redirection next_operator number file_word same target_of next_word plain_word pieced begins_word is_assignment has is_plain ends_word gap past_comment redirects
 dd_reads below n found skip count rest small few =
     let end = codes "conv=notrunc 2>/dev/null || exit 123\n" ++ rest in
-    rw (dd_word, input_word, output_word, size_word, skip_word substitution (decimal skip) (codes "count=" ++ (decimal count ++ 32 ∷ end)) (decimal_digits skip small),
-    count_word substitution (decimal count) end (decimal_digits count few), conv_word, null_word, exit_word, status_123) refl
+    rw (
+      dd_word,
+      input_word,
+      output_word,
+      size_word,
+      skip_word substitution (decimal skip) (codes "count=" ++ (decimal count ++ 32 ∷ end)) (decimal_digits skip small),
+      count_word substitution (decimal count) end (decimal_digits count few),
+      conv_word,
+      null_word,
+      exit_word,
+      status_123,
+    ) refl

@@ -1,16 +1,16 @@
 -- Lines of the script, read as items of a list and as items of the outermost list.
 use Rattle.std.proofs.Common.{◌≡◌, refl, ℕ, suc, List, [], ◌∷◌, ◌++◌, codes}
-use Rattle.std.specs.Prelude.{Option, Some, None, Ok}
+use Rattle.std.specs.Prelude.{Some, Ok}
 use Rattle.ap_shparse.specs.Bytes.{Text, ends_word, gap, has, is_plain, past_comment}
 use Rattle.ap_shparse.specs.Pieces.{braced, dollar, escaped, fallback, inside, name, other, outside, pieces, plain, quoted, single, unit, units, variable}
-use Rattle.ap_shparse.specs.Places.{Place, newlines, newlines_from}
+use Rattle.ap_shparse.specs.Places.{newlines, newlines_from}
 use Rattle.ap_shparse.specs.Words.{assignment, begins_word, is_assignment, pieced, plain_word, value}
 use Rattle.ap_shparse.specs.Redirects.{file_word, next_operator, number, redirects, same, target_of}
 use Rattle.ap_shparse.specs.Commands.{alone, assigned, element, elements, is_reserved, next_word, redirection, simple, substitution}
-use Rattle.ap_shparse.specs.Lists.{Lists, chain, choice, command, items, items_from, join, list, next_item, otherwise, others}
+use Rattle.ap_shparse.specs.Lists.{Lists, chain, command, items, items_from, join, list, next_item, others}
 use Rattle.ap_shparse.specs.Scripts.{script_from, turn}
 use Rattle.ap_shparse.specs.declared.tree.Chain.{Chain}
-use Rattle.ap_dispatch.proofs.Tree.{ape_start, ape_test, chmod_item, copy_item, cp_item, exit_item, is_any, start_item, system_test, uname_item}
+use Rattle.ap_dispatch.proofs.Tree.{ape_start, ape_test, chmod_item, copy_item, cp_item, exit_item, is_any, start_item, uname_item}
 
 -- ---- items of a list; the first one stands behind the newline of `then`
 

@@ -1,6 +1,6 @@
 -- The magic's assignment with its here-document, read; and so the whole text.
-use Rattle.std.proofs.Common.{◌≡◌, ◌≢◌, ◌∙◌, ap, sym, subst, refl, ℕ, suc, ◌+◌, ◌-◌, ◌<◌, ◌^◌, List, [], ◌∷◌, ◌++◌, Bool, true, false, cond, codes, length, drop, arith, append_assoc, length-append}
-use Rattle.std.specs.Prelude.{Option, Some, None, Ok}
+use Rattle.std.proofs.Common.{◌≡◌, ◌≢◌, ◌∙◌, ap, sym, refl, ℕ, suc, ◌+◌, ◌-◌, ◌<◌, ◌^◌, List, [], ◌∷◌, ◌++◌, Bool, true, false, cond, codes, length, drop, arith, append_assoc, length-append}
+use Rattle.std.specs.Prelude.{Option, Some, Ok}
 use Rattle.std.specs.Option.{is_some}
 use Rattle.ap_check.specs.declared.options.Systems.{Systems}
 use Rattle.ap_script.specs.Script.{script_of}

@@ -1,16 +1,13 @@
 -- The script is read as its items, whatever stands behind it.
-use Rattle.std.proofs.Common.{◌≡◌, ◌∙◌, ap, sym, subst, refl, ℕ, suc, ◌+◌, ◌/◌, ◌%◌, ◌<◌, ◌^◌, List, [], ◌∷◌, ◌++◌, Bool, true, false, cond, codes, length, arith, append_assoc}
-use Rattle.std.specs.Prelude.{Option, Some, None, Ok}
+use Rattle.std.proofs.Common.{◌≡◌, ◌∙◌, ap, sym, subst, refl, ℕ, suc, ◌+◌, ◌/◌, ◌%◌, List, [], ◌∷◌, ◌++◌, Bool, true, false, cond, codes, append_assoc}
+use Rattle.std.specs.Prelude.{Option, Some, None}
 use Rattle.std.specs.Option.{is_some}
-use Rattle.std.specs.Fmt.{decimal}
-use Rattle.ap_check.specs.declared.options.Systems.{Systems}
-use Rattle.ap_check.specs.Options.{has_system}
 use Rattle.ap_elf.specs.declared.machine.Machine.TheVariants.{X64, A64}
-use Rattle.ap_octal.specs.Statement.{is_letter, octal_of, octals_of, statement_of}
-use Rattle.ap_script.specs.Script.{darwin_lines, darwin_x64_lines, dd_line, kernels_of, machine_end, machine_lines, machine_start, or_tests, script_end, script_of, script_start, system_line, system_lines}
+use Rattle.ap_octal.specs.Statement.{is_letter, octals_of, statement_of}
+use Rattle.ap_script.specs.Script.{machine_end, machine_lines, machine_start, or_tests}
 use Rattle.ap_script.proofs.Quotes.{bare-no_quote, bare-octals}
 use Rattle.ap_shparse.specs.Bytes.{Text, ends_word, gap, has, is_plain, past_comment}
-use Rattle.ap_shparse.specs.Pieces.{dollar, escaped, inside, name, outside, pieces, plain, quoted, single, unit, units, variable}
+use Rattle.ap_shparse.specs.Pieces.{dollar, escaped, inside, name, outside, pieces, plain, quoted, unit, units, variable}
 use Rattle.ap_shparse.specs.Places.{newlines, newlines_from}
 use Rattle.ap_shparse.specs.Words.{begins_word, is_assignment, pieced, plain_word}
 use Rattle.ap_shparse.specs.Redirects.{redirects}
@@ -18,10 +15,10 @@ use Rattle.ap_shparse.specs.Commands.{alone, element, elements, is_reserved, nex
 use Rattle.ap_shparse.specs.Lists.{Lists, chain, command, items, items_from, join, list, next_item, others}
 use Rattle.ap_shparse.specs.declared.tree.Chain.{Chain}
 use Rattle.ap_shparse.proofs.QuotedTexts.{lacks}
-use Rattle.ap_dispatch.proofs.Tree.{ape_item, ape_start, ape_test, copy_item, copy_items, darwin_item, darwin_x64_items, dd_item, exit_item, if_item, is_any, machine_items, script_items, statement_item, system_items, system_test, systems_item, uname_item}
-use Rattle.ap_dispatch.proofs.ReadLines.{Ends, a64_test_reads, ape_reads, ape_test_reads, copy_reads, darwin_test_reads, end_reads, exit_reads, first_exit_reads, last_reads, mac_machine_test_reads, machine_reads, system_reads, x64_test_reads}
-use Rattle.ap_dispatch.proofs.ReadItems.{dd_reads, statement_reads}
-use Rattle.ap_dispatch.proofs.ReadBranches.{IsIf, copy_lines, copy_list, if_ends, if_first_step, if_reads, if_step, list_reads}
+use Rattle.ap_dispatch.proofs.Tree.{copy_items, if_item, is_any, machine_items, statement_item, system_test}
+use Rattle.ap_dispatch.proofs.ReadLines.{a64_test_reads, end_reads, x64_test_reads}
+use Rattle.ap_dispatch.proofs.ReadItems.{statement_reads}
+use Rattle.ap_dispatch.proofs.ReadBranches.{IsIf, copy_lines, copy_list, if_first_step, if_reads, if_step, list_reads}
 use Rattle.ap_dispatch.proofs.ReadWords.{lacks_quote}
 
 -- ---- the octal text of a header
@@ -114,13 +111,13 @@ machines_list d (Some (c ∷ header)) None rest x a one =
     let item = if_item (is_any (codes "m") (codes "x86_64") (codes "amd64" ∷ [])) (copy_items (statement_item (octals_of (c ∷ header)))) in
     ap (λ t. list (suc (suc d)) (alone (10 ∷ t))) (x64_lines_are (c ∷ header) end)
     ∙ list_reads (suc d) (codes "\nif " ++ x64_text (c ∷ header) end) item [] end
-      (if_first_step (list (suc d)) _ [] (x64_text (c ∷ header) end) end item (x64_if d c header end) ∙ end_reads (list (suc d)) _ _ rest)
+    (if_first_step (list (suc d)) _ [] (x64_text (c ∷ header) end) end item (x64_if d c header end) ∙ end_reads (list (suc d)) _ _ rest)
 machines_list d None (Some (g ∷ other)) rest x a one =
     let end = codes "fi\n" ++ rest in
     let item = if_item (is_any (codes "m") (codes "aarch64") (codes "arm64" ∷ [])) (copy_items (statement_item (octals_of (g ∷ other)))) in
     ap (λ t. list (suc (suc d)) (alone (10 ∷ t))) (a64_lines_are (g ∷ other) end)
     ∙ list_reads (suc d) (codes "\nif " ++ a64_text (g ∷ other) end) item [] end
-      (if_first_step (list (suc d)) _ [] (a64_text (g ∷ other) end) end item (a64_if d g other end) ∙ end_reads (list (suc d)) _ _ rest)
+    (if_first_step (list (suc d)) _ [] (a64_text (g ∷ other) end) end item (a64_if d g other end) ∙ end_reads (list (suc d)) _ _ rest)
 machines_list d (Some (c ∷ header)) (Some (g ∷ other)) rest x a one =
     let end = codes "fi\n" ++ rest in
     let more = codes "if " ++ a64_text (g ∷ other) end in
@@ -129,8 +126,8 @@ machines_list d (Some (c ∷ header)) (Some (g ∷ other)) rest x a one =
     ap (λ t. list (suc (suc d)) (alone (10 ∷ (machine_lines X64 (Some (c ∷ header)) ++ t)))) (a64_lines_are (g ∷ other) end)
     ∙ ap (λ t. list (suc (suc d)) (alone (10 ∷ t))) (x64_lines_are (c ∷ header) more)
     ∙ list_reads (suc d) (codes "\nif " ++ x64_text (c ∷ header) more) item (second ∷ []) end
-      (if_first_step (list (suc d)) _ [] (x64_text (c ∷ header) more) more item (x64_if d c header more)
-      ∙ if_step (list (suc d)) _ _ (a64_text (g ∷ other) end) end second (a64_if d g other end) ∙ end_reads (list (suc d)) _ _ rest)
+    (if_first_step (list (suc d)) _ [] (x64_text (c ∷ header) more) more item (x64_if d c header more)
+    ∙ if_step (list (suc d)) _ _ (a64_text (g ∷ other) end) end second (a64_if d g other end) ∙ end_reads (list (suc d)) _ _ rest)
 
 -- ---- the test of the systems
 

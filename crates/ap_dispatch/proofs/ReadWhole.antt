@@ -1,6 +1,6 @@
 -- The script's lines behind the here-document, read to `exit 126`.
-use Rattle.std.proofs.Common.{◌≡◌, ◌∙◌, ap, sym, subst, refl, ℕ, suc, ◌+◌, ◌<◌, ◌^◌, List, [], ◌∷◌, ◌++◌, Bool, true, false, cond, codes, length, arith, append_assoc}
-use Rattle.std.specs.Prelude.{Option, Some, None, Ok}
+use Rattle.std.proofs.Common.{◌≡◌, ◌∙◌, ap, sym, subst, ℕ, suc, ◌<◌, ◌^◌, List, [], ◌∷◌, ◌++◌, Bool, true, false, cond, codes, append_assoc}
+use Rattle.std.specs.Prelude.{Option, Some}
 use Rattle.std.specs.Option.{is_some}
 use Rattle.std.specs.Fmt.{decimal}
 use Rattle.ap_check.specs.declared.options.Systems.{Systems}
@@ -15,7 +15,7 @@ use Rattle.ap_dispatch.proofs.Tree.{ape_item, ape_start, ape_test, copy_item, co
 use Rattle.ap_dispatch.proofs.ReadLines.{Ends, ape_reads, ape_test_reads, copy_reads, darwin_test_reads, end_reads, exit_reads, first_exit_reads, last_reads, mac_machine_test_reads, machine_reads, system_reads}
 use Rattle.ap_dispatch.proofs.ReadItems.{dd_reads}
 use Rattle.ap_dispatch.proofs.ReadBranches.{IsIf, copy_lines, copy_list, if_ends, if_first_step, if_reads, list_reads}
-use Rattle.ap_dispatch.proofs.ReadScript.{HasBytes, kernels, machines_list, machines_text, system_test_reads}
+use Rattle.ap_dispatch.proofs.ReadScript.{HasBytes, machines_list, machines_text, system_test_reads}
 
 -- ---- `ape`
 
@@ -80,7 +80,7 @@ darwin_text x64 skip count rest = codes "[ \"$s\" = Darwin ]; then\n" ++ (cond x
 
 darwin_list : (d : ℕ) (x64 : Bool) (skip count : ℕ) (rest : Text) → skip < 2 ^ 64 → count < 2 ^ 64
     → list (suc (suc d)) (alone (10 ∷ (cond x64 (darwin_x64_lines skip count) [] ++ (codes "exit 125\nfi\n" ++ rest))))
-      ≡ Some (darwin_x64_items x64 skip count ++ exit_item (codes "125") ∷ [], alone (codes "fi\n" ++ rest))
+    ≡ Some (darwin_x64_items x64 skip count ++ exit_item (codes "125") ∷ [], alone (codes "fi\n" ++ rest))
 darwin_list d false skip count rest small few =
     list_reads (suc d) (codes "\nexit 125\nfi\n" ++ rest) (exit_item (codes "125")) [] (codes "fi\n" ++ rest)
     (first_exit_reads (list (suc d)) _ [] (codes "fi\n" ++ rest) ∙ end_reads (list (suc d)) _ _ rest)
@@ -89,8 +89,8 @@ darwin_list d true skip count rest small few =
     let item = if_item (is_any (codes "m") (codes "x86_64") []) (copy_items (dd_item skip count)) in
     ap (λ t. list (suc (suc d)) (alone (10 ∷ t))) (mac_lines_are skip count end)
     ∙ list_reads (suc d) (codes "\nif " ++ mac_text skip count end) item (exit_item (codes "125") ∷ []) (codes "fi\n" ++ rest)
-      (if_first_step (list (suc d)) _ [] (mac_text skip count end) end item (mac_if d skip count end small few)
-      ∙ exit_reads (list (suc d)) _ _ (codes "fi\n" ++ rest) ∙ end_reads (list (suc d)) _ _ rest)
+    (if_first_step (list (suc d)) _ [] (mac_text skip count end) end item (mac_if d skip count end small few)
+    ∙ exit_reads (list (suc d)) _ _ (codes "fi\n" ++ rest) ∙ end_reads (list (suc d)) _ _ rest)
 
 darwin_if : (d : ℕ) (x64 : Bool) (skip count : ℕ) (rest : Text) → skip < 2 ^ 64 → count < 2 ^ 64
     → IsIf (list (suc (suc d))) (darwin_text x64 skip count rest) (darwin_item x64 skip count) rest
@@ -116,7 +116,7 @@ systems_lines_are systems x64 a64 rest =
 
 script_is : (systems : Systems) (x64 a64 : Option Text) (skip count : ℕ) (rest : Text)
     → script_of systems x64 a64 skip count ++ rest
-      ≡ script_start ++ (cond (has_system systems 16) (darwin_lines (is_some x64) skip count) [] ++ (codes "if " ++ systems_text systems x64 a64 (codes "exit 126\n" ++ rest)))
+    ≡ script_start ++ (cond (has_system systems 16) (darwin_lines (is_some x64) skip count) [] ++ (codes "if " ++ systems_text systems x64 a64 (codes "exit 126\n" ++ rest)))
 unfolding script_of system_lines
 script_is systems x64 a64 skip count rest =
     let mac = cond (has_system systems 16) (darwin_lines (is_some x64) skip count) [] in
@@ -131,7 +131,7 @@ script_is systems x64 a64 skip count rest =
 mac_ends : (d n : ℕ) (mac : Bool) (systems : Systems) (x64 a64 : Option Text) (skip count : ℕ) (rest : Text) (found : List Chain)
     → HasBytes x64 → HasBytes a64 → (is_some x64 ≡ false → is_some a64 ≡ false → ⊥) → skip < 2 ^ 64 → count < 2 ^ 64
     → Ends (list (suc (suc d))) (suc (suc (suc n))) (cond mac (darwin_lines (is_some x64) skip count) [] ++ (codes "if " ++ systems_text systems x64 a64 (codes "exit 126\n" ++ rest))) found
-      (found ++ (cond mac (darwin_item (is_some x64) skip count ∷ []) [] ++ systems_item systems x64 a64 ∷ exit_item (codes "126") ∷ []))
+    (found ++ (cond mac (darwin_item (is_some x64) skip count ∷ []) [] ++ systems_item systems x64 a64 ∷ exit_item (codes "126") ∷ []))
 mac_ends d n false systems x64 a64 skip count rest found x a one small few =
     let below = list (suc (suc d)) in
     let end = codes "exit 126\n" ++ rest in

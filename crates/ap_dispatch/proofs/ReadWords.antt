@@ -1,8 +1,8 @@
 -- Words of the script whose bytes aren't fixed, read: a text in single quotes, and a number in decimal.
-use Rattle.std.proofs.Common.{◌≡◌, ◌∙◌, ap, sym, refl, ℕ, zero, suc, ◌+◌, ◌-◌, ◌*◌, ◌/◌, ◌%◌, ◌^◌, ◌<◌, ◌≤◌, ◌==◌, ◌&&◌, not, List, [], ◌∷◌, ◌++◌, Bool, true, false, cond, codes, length, arith, append_assoc}
+use Rattle.std.proofs.Common.{◌≡◌, ◌∙◌, ap, sym, refl, ℕ, zero, suc, ◌+◌, ◌-◌, ◌*◌, ◌/◌, ◌%◌, ◌^◌, ◌<◌, ◌≤◌, ◌==◌, not, List, [], ◌∷◌, ◌++◌, Bool, true, false, cond, length, arith, append_assoc}
 use Rattle.std.specs.Prelude.{Option, Some, None}
 use Rattle.std.specs.Fmt.{decimal}
-use Rattle.std.proofs.lemmas.Bool.{and_parts, not-true}
+use Rattle.std.proofs.lemmas.Bool.{and_parts}
 use Rattle.std.proofs.lemmas.Bool.Decides.{nat_tests}
 use Rattle.std.proofs.lemmas.Fmt.{decimal_by_steps, decimal_nonempty, length-decimal-le}
 use Rattle.std.proofs.lemmas.List.{append-nil}
@@ -10,7 +10,7 @@ use Rattle.ap_octal.specs.DdPlace.{is_digit, short_number, with_digits}
 use Rattle.ap_script.proofs.Quotes.{has_no_quote}
 use Rattle.ap_shparse.specs.Bytes.{Text, ends_word, is_plain}
 use Rattle.ap_shparse.specs.Reads.{Outcome}
-use Rattle.ap_shparse.specs.Pieces.{none_found, outside, pieces, plain, single, unit, units, with_bytes}
+use Rattle.ap_shparse.specs.Pieces.{none_found, outside, pieces, plain, unit, units, with_bytes}
 use Rattle.ap_shparse.specs.declared.tree.Simple.{Simple}
 use Rattle.ap_shparse.proofs.QuotedTexts.{lacks, single_reads}
 

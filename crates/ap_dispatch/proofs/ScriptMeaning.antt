@@ -1,6 +1,6 @@
 -- The script means its dispatch table.
-use Rattle.std.proofs.Common.{◌≡◌, ◌∙◌, ap, sym, refl, ℕ, List, [], ◌∷◌, ◌++◌, Bool, true, false, codes, cond, map}
-use Rattle.std.specs.Prelude.{Option, Some, None, ◌&&◌, unwrap_or}
+use Rattle.std.proofs.Common.{◌≡◌, ◌∙◌, ap, refl, ℕ, List, [], ◌∷◌, ◌++◌, false, codes, cond, map}
+use Rattle.std.specs.Prelude.{Option, ◌&&◌, unwrap_or}
 use Rattle.std.specs.Option.{is_some}
 use Rattle.std.specs.Str.{bytes_eq}
 use Rattle.ap_check.specs.declared.options.Systems.{Systems}
@@ -16,7 +16,6 @@ use Rattle.ap_shell.specs.declared.types.Outcome.{Outcome}
 use Rattle.ap_shell.specs.declared.types.Outcome.TheVariants.{Execs, Exits}
 use Rattle.ap_shell.specs.declared.state.State.{State}
 use Rattle.ap_shell.specs.declared.state.Variable.{Variable}
-use Rattle.ap_shparse.specs.declared.tree.Chain.{Chain}
 use Rattle.ap_dispatch.specs.Dispatch.{IsReady, by_header, by_mach, copy_name, dispatch, is_one_of, machine_name, named_header, system_name}
 use Rattle.ap_dispatch.proofs.Tree.{ape_item, copy_item, opening_item, script_items, system_items, uname_item}
 use Rattle.ap_dispatch.proofs.Stopping.{Stops, finishes, stops_if, stops_later, stops_now}
@@ -71,8 +70,8 @@ without_ape systems x64 a64 skip count w env host =
 uname_stop : (env : Env) (host : Host) (w : Text) (systems : Systems) (x64 a64 : Option Text) (skip count : ℕ) (name value : Text) (calls : ℕ)
     → bytes_eq name (codes "TMPDIR") ≡ false → IsReady env host w → IsSpelled x64 → IsSpelled a64 → AreShort skip count
     → Stops (in_turn (map (chain_meaning env) (uname_item (codes "m") (codes "-m") ∷ uname_item (codes "s") (codes "-s") ∷ copy_item ∷ system_items systems x64 a64 skip count))
-      (record { vars = variables_1 env name value; host = host; status = 0; calls = calls; inner = 0 }))
-      (without_ape systems x64 a64 skip count w env host)
+    (record { vars = variables_1 env name value; host = host; status = 0; calls = calls; inner = 0 }))
+    (without_ape systems x64 a64 skip count w env host)
 uname_stop env host w systems x64 a64 skip count name value calls other ready spelled others short =
     let end = without_ape systems x64 a64 skip count w env host in
     let s1 : State = record { vars = variables_1 env name value; host = host; status = 0; calls = calls; inner = 0 } in

@@ -1,5 +1,5 @@
 -- Where a script stops: items in turn, and `if`.
-use Rattle.std.proofs.Common.{◌≡◌, ◌∙◌, ap, sym, refl, subst, ℕ, List, [], ◌∷◌, ◌==◌, Bool, true, false, cond, map}
+use Rattle.std.proofs.Common.{◌≡◌, ◌∙◌, ap, refl, List, [], ◌∷◌, ◌==◌, Bool, true, false, cond, map}
 use Rattle.std.specs.Prelude.{Option, Some, None}
 use Rattle.ap_shell.specs.Steps.{Action, unless_ended}
 use Rattle.ap_shell.specs.Meaning.{branch, chain_meaning, finished, in_turn, joined_on}

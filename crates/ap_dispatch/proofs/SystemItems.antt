@@ -1,5 +1,5 @@
 -- What the script does from the test of the system on.
-use Rattle.std.proofs.Common.{◌≡◌, ◌∙◌, ap, sym, refl, subst, ℕ, List, [], ◌∷◌, ◌++◌, ◌==◌, Bool, true, false, codes, cond, map}
+use Rattle.std.proofs.Common.{◌≡◌, ◌∙◌, ap, refl, subst, ℕ, List, [], ◌∷◌, ◌++◌, Bool, true, false, codes, cond, map}
 use Rattle.std.specs.Prelude.{Option, Some, None, ◌||◌, ◌&&◌}
 use Rattle.std.specs.Option.{is_some}
 use Rattle.std.specs.Fmt.{decimal}
@@ -23,15 +23,15 @@ use Rattle.ap_shell.specs.Meaning.{branch, chain_meaning, in_turn}
 use Rattle.ap_shell.specs.declared.types.Env.{Env}
 use Rattle.ap_shell.specs.declared.types.Host.{Host}
 use Rattle.ap_shell.specs.declared.types.Outcome.{Outcome}
-use Rattle.ap_shell.specs.declared.types.Outcome.TheVariants.{Execs, Exits}
+use Rattle.ap_shell.specs.declared.types.Outcome.TheVariants.{Exits}
 use Rattle.ap_shell.specs.declared.state.State.{State}
 use Rattle.ap_shparse.specs.declared.tree.Chain.{Chain}
-use Rattle.ap_dispatch.specs.Dispatch.{IsReady, by_header, by_mach, copy_name, is_name_of, is_one_of, machine_name, named_header, runs_copy, system_name, with_copy}
+use Rattle.ap_dispatch.specs.Dispatch.{IsReady, by_header, by_mach, copy_name, is_name_of, is_one_of, machine_name, named_header, runs_copy, system_name}
 use Rattle.ap_dispatch.proofs.Tree.{copy_items, darwin_item, darwin_x64_items, dd_item, exit_item, if_item, is_any, machine_items, statement_item, system_items, system_test, systems_item}
 use Rattle.ap_dispatch.proofs.FileFacts.{at_host, differ}
 use Rattle.ap_dispatch.proofs.Stopping.{Stops, if_goes, if_passed, if_stops, stops_by, stops_if, stops_later, stops_now}
-use Rattle.ap_dispatch.proofs.Testing.{holds, is_any_goes, system_test_goes, tested}
-use Rattle.ap_dispatch.proofs.Copying.{IsCopyName, Overwrites, copies, dd_overwrites, printf_overwrites}
+use Rattle.ap_dispatch.proofs.Testing.{is_any_goes, system_test_goes, tested}
+use Rattle.ap_dispatch.proofs.Copying.{Overwrites, copies, dd_overwrites, printf_overwrites}
 use Rattle.ap_dispatch.proofs.CopyNames.{copy_name_is}
 use Rattle.ap_dispatch.proofs.FirstItems.{exit_stops, exits_125, exits_126}
 
@@ -254,7 +254,7 @@ kernel_stops env host w systems x64 a64 s ready known spelled others =
 mac_by : (env : Env) (host : Host) (w : Text) (systems : Systems) (x64 a64 : Option Text) (skip count : ℕ) (s : State) (mac darwin : Bool)
     → IsReady env host w → Knows env host s → IsSpelled x64 → IsSpelled a64 → AreShort skip count → bytes_eq (system_name env) (codes "Darwin") ≡ darwin
     → Stops (in_turn (map (chain_meaning env) (cond mac (darwin_item (is_some x64) skip count ∷ []) [] ++ last_items systems x64 a64)) s)
-      (cond (mac && darwin) (by_mach (is_some x64 && bytes_eq (machine_name env) (codes "x86_64")) skip count w env host) (kernel_end env host w systems x64 a64))
+    (cond (mac && darwin) (by_mach (is_some x64 && bytes_eq (machine_name env) (codes "x86_64")) skip count w env host) (kernel_end env host w systems x64 a64))
 mac_by env host w systems x64 a64 skip count s false darwin ready known spelled others short is = kernel_stops env host w systems x64 a64 s ready known spelled others
 mac_by env host w systems x64 a64 skip count s true true ready known spelled others short is =
     stops_now (chain_meaning env (darwin_item (is_some x64) skip count)) (map (chain_meaning env) (last_items systems x64 a64)) s
@@ -268,8 +268,8 @@ mac_by env host w systems x64 a64 skip count s true false ready known spelled ot
 pub systems_stop : (env : Env) (host : Host) (w : Text) (systems : Systems) (x64 a64 : Option Text) (skip count : ℕ) (s : State)
     → IsReady env host w → Knows env host s → IsSpelled x64 → IsSpelled a64 → AreShort skip count
     → Stops (in_turn (map (chain_meaning env) (system_items systems x64 a64 skip count)) s)
-      (cond (has_system systems 16 && bytes_eq (system_name env) (codes "Darwin")) (by_mach (is_some x64 && bytes_eq (machine_name env) (codes "x86_64")) skip count w env host)
-      (cond (is_one_of (system_name env) (kernels_of systems)) (by_header (named_header x64 a64 (machine_name env)) w env host) (Exits 126, host)))
+    (cond (has_system systems 16 && bytes_eq (system_name env) (codes "Darwin")) (by_mach (is_some x64 && bytes_eq (machine_name env) (codes "x86_64")) skip count w env host)
+    (cond (is_one_of (system_name env) (kernels_of systems)) (by_header (named_header x64 a64 (machine_name env)) w env host) (Exits 126, host)))
 unfolding last_items kernel_end
 systems_stop env host w systems x64 a64 skip count s ready known spelled others short =
     mac_by env host w systems x64 a64 skip count s (has_system systems 16) (bytes_eq (system_name env) (codes "Darwin")) ready known spelled others short refl

@@ -1,6 +1,6 @@
 -- Whether a variable is one of some names.
-use Rattle.std.proofs.Common.{◌≡◌, ◌∙◌, ap, sym, refl, ℕ, List, [], ◌∷◌, ◌++◌, ◌==◌, Bool, true, false, codes, map}
-use Rattle.std.specs.Prelude.{Option, Some, None, ◌||◌}
+use Rattle.std.proofs.Common.{◌≡◌, ◌∙◌, ap, refl, List, [], ◌∷◌, ◌==◌, Bool, true, false, codes, map}
+use Rattle.std.specs.Prelude.{None, ◌||◌}
 use Rattle.std.specs.Str.{bytes_eq}
 use Rattle.std.proofs.lemmas.List.{append-nil}
 use Rattle.ap_shell.specs.Files.{Text}
@@ -15,7 +15,7 @@ use Rattle.ap_shell.specs.declared.state.State.{State}
 use Rattle.ap_dispatch.specs.Dispatch.{is_one_of}
 use Rattle.ap_dispatch.proofs.Tree.{equals, is_any, or_else, system_test, text, variable}
 use Rattle.ap_dispatch.proofs.Equations.{chain_is, joined_is}
-use Rattle.ap_dispatch.proofs.Opened.{equals_opened, equals_text_opened, equals_words, is_any_opened, of_variable, said}
+use Rattle.ap_dispatch.proofs.Opened.{equals_opened, equals_text_opened, equals_words, is_any_opened, of_variable}
 
 -- the state after a test
 abbrev pub tested : State → Bool → State

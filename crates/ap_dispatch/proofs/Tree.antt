@@ -14,10 +14,9 @@ use Rattle.ap_shparse.specs.declared.tree.Joined.{Joined, roll-Joined}
 use Rattle.ap_shparse.specs.declared.tree.Node.{Node}
 use Rattle.ap_shparse.specs.declared.tree.Node.TheVariants as node
 use Rattle.ap_shparse.specs.declared.tree.Simple.{Simple, roll-Simple}
-use Rattle.ap_shparse.specs.declared.tree.Assign.{Assign, roll-Assign}
+use Rattle.ap_shparse.specs.declared.tree.Assign.{roll-Assign}
 use Rattle.ap_shparse.specs.declared.tree.Word.{Word}
 use Rattle.ap_shparse.specs.declared.tree.Word.TheVariants as word
-use Rattle.ap_shparse.specs.declared.tree.Part.{Part}
 use Rattle.ap_shparse.specs.declared.tree.Part.TheVariants as part
 use Rattle.ap_shparse.specs.declared.tree.Redirection.{Redirection, roll-Redirection}
 use Rattle.ap_shparse.specs.declared.tree.Target.{Target}

@@ -20,7 +20,6 @@ use Rattle.ap_shell.specs.Files.{Text}
 use Rattle.ap_shell.specs.Places.{host_file}
 use Rattle.ap_shell.specs.FileCommands.{begins_with}
 use Rattle.ap_shell.specs.Words.{trimmed, unless_empty}
-use Rattle.ap_shell.specs.declared.map.HostFile.{HostFile}
 use Rattle.ap_shell.specs.declared.types.Env.{Env}
 use Rattle.ap_shell.specs.declared.types.Host.{Host}
 use Rattle.ap_shell.specs.declared.types.Outcome.{Outcome}
