@@ -29,7 +29,7 @@ differ x y apart = differs_by x y _ refl apart
 
 -- ---- the map of files
 
-get_insert : (m : FileMap) (k : Text) (v : HostFile) (q : Text) → fin.get (fin.insert m k v) q ≡ cond (bytes_eq q k) (Some v) (fin.get m q)
+pub get_insert : (m : FileMap) (k : Text) (v : HostFile) (q : Text) → fin.get (fin.insert m k v) q ≡ cond (bytes_eq q k) (Some v) (fin.get m q)
 get_insert m k v q = get-insert nat_list_cmp_total m k v q ∙ ap (λ b. cond b (Some v) (fin.get m q)) (sym (texts_ties q k))
 
 pub inserted : (t : Text) (f : HostFile) (files : FileMap) → fin.get (fin.insert files t f) t ≡ Some f

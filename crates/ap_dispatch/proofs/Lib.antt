@@ -19,3 +19,4 @@ pub mod ReadOpening
 pub mod FreeTexts
 pub mod LinkedText
 pub mod LinkedDispatch
+pub mod OtherFiles

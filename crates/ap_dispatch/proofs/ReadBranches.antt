@@ -8,7 +8,7 @@ use Rattle.ap_shparse.specs.Lists.{Lists, chain, choice, command, items, items_f
 use Rattle.ap_shparse.specs.Scripts.{script_from, turn}
 use Rattle.ap_shparse.specs.declared.tree.Chain.{Chain}
 use Rattle.ap_dispatch.proofs.Tree.{chmod_item, copy_items, cp_item, if_item, start_item}
-use Rattle.ap_dispatch.proofs.ReadLines.{Ends, chmod_reads, cp_reads, end_reads, start_reads}
+use Rattle.ap_dispatch.proofs.ReadLines.{ReadsTo, chmod_reads, cp_reads, end_reads, start_reads}
 
 -- ---- `if`
 
@@ -34,7 +34,7 @@ unfolding IsIf items_from next_item newlines newlines_from gap past_comment has 
 if_first_step below n found t rest c is = rw is refl
 
 pub if_ends : (below : Lists) (n : ℕ) (t rest : Text) (found all : List Chain) (c : Chain) → IsIf below t c rest
-    → Ends below n rest (found ++ c ∷ []) all → Ends below (suc n) (codes "if " ++ t) found all
+    → ReadsTo below n rest (found ++ c ∷ []) all → ReadsTo below (suc n) (codes "if " ++ t) found all
 unfolding IsIf script_from turn newlines newlines_from gap past_comment has ends_word
 if_ends below n t rest found all c is ends left = rw is (ends _)
 

@@ -74,21 +74,21 @@ a64_test_reads d more = refl
 -- ---- items of the outermost list
 
 -- from here on the text is a script, and these are all its items
-abbrev pub Ends : Lists → ℕ → Text → List Chain → List Chain → Type 0
-Ends below n text found all = (left : ℕ) → script_from (chain below) n left found (alone text) ≡ Ok all
+abbrev pub ReadsTo : Lists → ℕ → Text → List Chain → List Chain → Type 0
+ReadsTo below n text found all = (left : ℕ) → script_from (chain below) n left found (alone text) ≡ Ok all
 
-pub machine_reads : (below : Lists) (n : ℕ) (rest : Text) (found all : List Chain) → Ends below n rest (found ++ uname_item (codes "m") (codes "-m") ∷ []) all → Ends below (suc n) (codes "m=$(uname -m)\n" ++ rest) found all
+pub machine_reads : (below : Lists) (n : ℕ) (rest : Text) (found all : List Chain) → ReadsTo below n rest (found ++ uname_item (codes "m") (codes "-m") ∷ []) all → ReadsTo below (suc n) (codes "m=$(uname -m)\n" ++ rest) found all
 unfolding script_from turn chain command others join newlines newlines_from simple is_reserved elements element redirection next_operator number file_word same target_of assigned next_word plain_word pieced begins_word value is_assignment assignment units unit pieces outside inside dollar braced fallback other variable name single plain escaped quoted has is_plain ends_word gap past_comment redirects substitution
 machine_reads below n rest found all ends left = ends _
 
-pub system_reads : (below : Lists) (n : ℕ) (rest : Text) (found all : List Chain) → Ends below n rest (found ++ uname_item (codes "s") (codes "-s") ∷ []) all → Ends below (suc n) (codes "s=$(uname -s)\n" ++ rest) found all
+pub system_reads : (below : Lists) (n : ℕ) (rest : Text) (found all : List Chain) → ReadsTo below n rest (found ++ uname_item (codes "s") (codes "-s") ∷ []) all → ReadsTo below (suc n) (codes "s=$(uname -s)\n" ++ rest) found all
 unfolding script_from turn chain command others join newlines newlines_from simple is_reserved elements element redirection next_operator number file_word same target_of assigned next_word plain_word pieced begins_word value is_assignment assignment units unit pieces outside inside dollar braced fallback other variable name single plain escaped quoted has is_plain ends_word gap past_comment redirects substitution
 system_reads below n rest found all ends left = ends _
 
-pub copy_reads : (below : Lists) (n : ℕ) (rest : Text) (found all : List Chain) → Ends below n rest (found ++ copy_item ∷ []) all → Ends below (suc n) (codes "t=\"${TMPDIR:-/tmp}/ape.$$\"\n" ++ rest) found all
+pub copy_reads : (below : Lists) (n : ℕ) (rest : Text) (found all : List Chain) → ReadsTo below n rest (found ++ copy_item ∷ []) all → ReadsTo below (suc n) (codes "t=\"${TMPDIR:-/tmp}/ape.$$\"\n" ++ rest) found all
 unfolding script_from turn chain command others join newlines newlines_from simple is_reserved elements element redirection next_operator number file_word same target_of assigned next_word plain_word pieced begins_word value is_assignment assignment units unit pieces outside inside dollar braced fallback other variable name single plain escaped quoted has is_plain ends_word gap past_comment redirects substitution
 copy_reads below n rest found all ends left = ends _
 
-pub last_reads : (below : Lists) (n : ℕ) (rest : Text) (found : List Chain) → Ends below (suc n) (codes "exit 126\n" ++ rest) found (found ++ exit_item (codes "126") ∷ [])
+pub last_reads : (below : Lists) (n : ℕ) (rest : Text) (found : List Chain) → ReadsTo below (suc n) (codes "exit 126\n" ++ rest) found (found ++ exit_item (codes "126") ∷ [])
 unfolding script_from turn chain command others join newlines newlines_from simple is_reserved elements element redirection next_operator number file_word same target_of assigned next_word plain_word pieced begins_word value is_assignment assignment units unit pieces outside inside dollar braced fallback other variable name single plain escaped quoted has is_plain ends_word gap past_comment redirects substitution
 last_reads below n rest found left = refl

@@ -17,7 +17,7 @@ use Rattle.ap_shparse.specs.declared.tree.Chain.{Chain}
 use Rattle.ap_shparse.specs.declared.tree.Simple.{Simple}
 use Rattle.ap_shparse.proofs.QuotedTexts.{StandsNowhere, body_reads, delimiter_reads, lacks}
 use Rattle.ap_dispatch.proofs.Tree.{opening_item, script_items}
-use Rattle.ap_dispatch.proofs.ReadLines.{Ends}
+use Rattle.ap_dispatch.proofs.ReadLines.{ReadsTo}
 use Rattle.ap_dispatch.proofs.ReadWords.{quoted_word}
 use Rattle.ap_dispatch.proofs.ReadScript.{HasBytes}
 use Rattle.ap_dispatch.proofs.ReadWhole.{script_ends}
@@ -60,8 +60,8 @@ abbrev pub opening_text : Text → Text → Text → Text → Text → Text
 opening_text name value d body rest = name ++ (codes "='\n" ++ (value ++ (codes "' <<'" ++ (d ++ (codes "'\n" ++ (body ++ (codes "\n" ++ (d ++ (codes "\n" ++ rest)))))))))
 
 opening_ends : (below : Lists) (n : ℕ) (windows debug : Bool) (value d body rest : Text) (all : List Chain) → lacks 39 value ≡ true → IsDelimiter d body
-    → Ends below n rest (opening_item (magic_name windows debug) (10 ∷ value) (body ++ 10 ∷ []) ∷ []) all
-    → Ends below (suc n) (opening_text (magic_name windows debug) value d body rest) [] all
+    → ReadsTo below n rest (opening_item (magic_name windows debug) (10 ∷ value) (body ++ 10 ∷ []) ∷ []) all
+    → ReadsTo below (suc n) (opening_text (magic_name windows debug) value d body rest) [] all
 unfolding script_from turn chain command others newlines newlines_from simple is_reserved elements element redirection next_operator number target_of assigned value is_assignment assignment name has is_plain ends_word gap past_comment redirects
 opening_ends below n true debug value d body rest all quiet is ends left =
     rw (quoted_word substitution (10 ∷ value) (codes "<<'" ++ (d ++ (codes "'\n" ++ (body ++ (codes "\n" ++ (d ++ (codes "\n" ++ rest))))))) quiet, here_reads substitution d body rest is, behind_is body d rest) (ends _)

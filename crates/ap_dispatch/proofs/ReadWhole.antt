@@ -12,7 +12,7 @@ use Rattle.ap_shparse.specs.Commands.{alone}
 use Rattle.ap_shparse.specs.Lists.{Lists, items_from, list}
 use Rattle.ap_shparse.specs.declared.tree.Chain.{Chain}
 use Rattle.ap_dispatch.proofs.Tree.{ape_item, ape_start, ape_test, copy_item, copy_items, darwin_item, darwin_x64_items, dd_item, exit_item, if_item, is_any, machine_items, script_items, system_items, system_test, systems_item, uname_item}
-use Rattle.ap_dispatch.proofs.ReadLines.{Ends, ape_reads, ape_test_reads, copy_reads, darwin_test_reads, end_reads, exit_reads, first_exit_reads, last_reads, mac_machine_test_reads, machine_reads, system_reads}
+use Rattle.ap_dispatch.proofs.ReadLines.{ReadsTo, ape_reads, ape_test_reads, copy_reads, darwin_test_reads, end_reads, exit_reads, first_exit_reads, last_reads, mac_machine_test_reads, machine_reads, system_reads}
 use Rattle.ap_dispatch.proofs.ReadItems.{dd_reads}
 use Rattle.ap_dispatch.proofs.ReadBranches.{IsIf, copy_lines, copy_list, if_ends, if_first_step, if_reads, list_reads}
 use Rattle.ap_dispatch.proofs.ReadScript.{HasBytes, machines_list, machines_text, system_test_reads}
@@ -130,14 +130,14 @@ script_is systems x64 a64 skip count rest =
 
 mac_ends : (d n : ℕ) (mac : Bool) (systems : Systems) (x64 a64 : Option Text) (skip count : ℕ) (rest : Text) (found : List Chain)
     → HasBytes x64 → HasBytes a64 → (is_some x64 ≡ false → is_some a64 ≡ false → ⊥) → skip < 2 ^ 64 → count < 2 ^ 64
-    → Ends (list (suc (suc d))) (suc (suc (suc n))) (cond mac (darwin_lines (is_some x64) skip count) [] ++ (codes "if " ++ systems_text systems x64 a64 (codes "exit 126\n" ++ rest))) found
+    → ReadsTo (list (suc (suc d))) (suc (suc (suc n))) (cond mac (darwin_lines (is_some x64) skip count) [] ++ (codes "if " ++ systems_text systems x64 a64 (codes "exit 126\n" ++ rest))) found
     (found ++ (cond mac (darwin_item (is_some x64) skip count ∷ []) [] ++ systems_item systems x64 a64 ∷ exit_item (codes "126") ∷ []))
 mac_ends d n false systems x64 a64 skip count rest found x a one small few =
     let below = list (suc (suc d)) in
     let end = codes "exit 126\n" ++ rest in
     let all = found ++ systems_item systems x64 a64 ∷ exit_item (codes "126") ∷ [] in
     if_ends below (suc (suc n)) (systems_text systems x64 a64 end) end found all (systems_item systems x64 a64) (systems_if d systems x64 a64 end x a one)
-    (subst (λ z. Ends below (suc (suc n)) end (found ++ systems_item systems x64 a64 ∷ []) z) (append_assoc found (systems_item systems x64 a64 ∷ []) (exit_item (codes "126") ∷ []))
+    (subst (λ z. ReadsTo below (suc (suc n)) end (found ++ systems_item systems x64 a64 ∷ []) z) (append_assoc found (systems_item systems x64 a64 ∷ []) (exit_item (codes "126") ∷ []))
     (last_reads below (suc n) rest (found ++ systems_item systems x64 a64 ∷ [])))
 mac_ends d n true systems x64 a64 skip count rest found x a one small few =
     let below = list (suc (suc d)) in
@@ -146,16 +146,16 @@ mac_ends d n true systems x64 a64 skip count rest found x a one small few =
     let first = darwin_item (is_some x64) skip count in
     let front = found ++ first ∷ [] in
     let all = found ++ first ∷ systems_item systems x64 a64 ∷ exit_item (codes "126") ∷ [] in
-    subst (λ t. Ends below (suc (suc (suc n))) t found all) (sym (darwin_lines_are (is_some x64) skip count more))
+    subst (λ t. ReadsTo below (suc (suc (suc n))) t found all) (sym (darwin_lines_are (is_some x64) skip count more))
     (if_ends below (suc (suc n)) (darwin_text (is_some x64) skip count more) more found all first (darwin_if d (is_some x64) skip count more small few)
     (if_ends below (suc n) (systems_text systems x64 a64 end) end front all (systems_item systems x64 a64) (systems_if d systems x64 a64 end x a one)
-    (subst (λ z. Ends below (suc n) end (front ++ systems_item systems x64 a64 ∷ []) z)
+    (subst (λ z. ReadsTo below (suc n) end (front ++ systems_item systems x64 a64 ∷ []) z)
     (append_assoc front (systems_item systems x64 a64 ∷ []) (exit_item (codes "126") ∷ []) ∙ append_assoc found (first ∷ []) (systems_item systems x64 a64 ∷ exit_item (codes "126") ∷ []))
     (last_reads below n rest (front ++ systems_item systems x64 a64 ∷ [])))))
 
 pub script_ends : (d n : ℕ) (systems : Systems) (x64 a64 : Option Text) (skip count : ℕ) (rest : Text) (first : Chain)
     → HasBytes x64 → HasBytes a64 → (is_some x64 ≡ false → is_some a64 ≡ false → ⊥) → skip < 2 ^ 64 → count < 2 ^ 64
-    → Ends (list (suc (suc d))) (suc (suc (suc (suc (suc (suc (suc n))))))) (script_of systems x64 a64 skip count ++ rest) (first ∷ []) (first ∷ script_items systems x64 a64 skip count)
+    → ReadsTo (list (suc (suc d))) (suc (suc (suc (suc (suc (suc (suc n))))))) (script_of systems x64 a64 skip count ++ rest) (first ∷ []) (first ∷ script_items systems x64 a64 skip count)
 unfolding script_items script_start
 script_ends d n systems x64 a64 skip count rest first x a one small few =
     let below = list (suc (suc d)) in
@@ -164,7 +164,7 @@ script_ends d n systems x64 a64 skip count rest first x a one small few =
     let system = codes "s=$(uname -s)\n" ++ copy in
     let machine = codes "m=$(uname -m)\n" ++ system in
     let all = first ∷ ape_item ∷ uname_item (codes "m") (codes "-m") ∷ uname_item (codes "s") (codes "-s") ∷ copy_item ∷ system_items systems x64 a64 skip count in
-    subst (λ t. Ends below (suc (suc (suc (suc (suc (suc (suc n))))))) t (first ∷ []) all) (sym (script_is systems x64 a64 skip count rest))
+    subst (λ t. ReadsTo below (suc (suc (suc (suc (suc (suc (suc n))))))) t (first ∷ []) all) (sym (script_is systems x64 a64 skip count rest))
     (if_ends below (suc (suc (suc (suc (suc (suc n)))))) (codes "command -v ape >/dev/null 2>&1; then\nexec ape \"$0\" \"$@\"\nfi\n" ++ machine) machine (first ∷ []) all ape_item (ape_if (suc d) machine)
     (machine_reads below (suc (suc (suc (suc (suc n))))) system (first ∷ ape_item ∷ []) all
     (system_reads below (suc (suc (suc (suc n)))) copy (first ∷ ape_item ∷ uname_item (codes "m") (codes "-m") ∷ []) all
