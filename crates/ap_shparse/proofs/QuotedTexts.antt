@@ -1,13 +1,12 @@
 -- What is read of a text in single quotes, of a delimiter, and of a here-document in whose body the delimiter doesn't stand.
-use Rattle.std.proofs.Common.{◌≡◌, ◌≢◌, ◌⊎◌, inl, inr, ◌∙◌, ap, sym, refl, ℕ, zero, suc, ◌+◌, ◌≤◌, ◌==◌, ◌&&◌, not, List, [], ◌∷◌, ◌++◌, Bool, true, false, cond, length, arith, append_assoc, length-append}
-use Rattle.std.specs.Prelude.{Option, Some, None}
+use Rattle.std.proofs.Common.{◌≡◌, ◌≢◌, ◌⊎◌, inl, inr, ◌∙◌, ap, sym, refl, ℕ, zero, suc, ◌+◌, ◌≤◌, ◌==◌, ◌&&◌, not, [], ◌∷◌, ◌++◌, Bool, true, false, cond, length, arith, append_assoc, length-append}
+use Rattle.std.specs.Prelude.{Some}
 use Rattle.std.specs.Str.{bytes_eq}
 use Rattle.std.proofs.lemmas.Bool.{and_parts, not-true}
 use Rattle.std.proofs.lemmas.Bool.Decides.{nat_tests}
 use Rattle.std.proofs.lemmas.List.{append-nil}
 use Rattle.std.proofs.lemmas.Slice.Eq.{bytes_eq-Decides}
 use Rattle.ap_shparse.specs.Bytes.{Text, after, ends_word, has, is_among, run}
-use Rattle.ap_shparse.specs.Reads.{Outcome}
 use Rattle.ap_shparse.specs.Pieces.{single, with_bytes}
 use Rattle.ap_shparse.specs.Places.{body, body_from, delimiter, is_delimiter}
 use Rattle.ap_shparse.specs.declared.class.Class.TheVariants.{Comment, Quoted}
@@ -116,7 +115,7 @@ by_lines d (suc n) found t u (line, is_line, inr (more, is)) h k none next =
     ∙ line_passed d (suc n) found line (more ++ behind) is_line (apart_by line d _ refl (λ e. none [] (10 ∷ more) (is ∙ ap (λ x. x ++ 10 ∷ more) e)))
     ∙ next (found ++ (line ++ 10 ∷ [])) more (omega arith) (λ f b e. none (line ++ 10 ∷ f) b (is ∙ ap (λ x. line ++ 10 ∷ x) e ∙ sym (append_assoc line (10 ∷ f) (d ++ b))))
     ∙ ap (λ x. Some (x, 10 ∷ u)) (append_assoc found (line ++ 10 ∷ []) (more ++ 10 ∷ [])
-        ∙ ap (λ x. found ++ x) (append_assoc line (10 ∷ []) (more ++ 10 ∷ []) ∙ sym (append_assoc line (10 ∷ more) (10 ∷ [])) ∙ ap (λ x. x ++ 10 ∷ []) (sym is)))
+    ∙ ap (λ x. found ++ x) (append_assoc line (10 ∷ []) (more ++ 10 ∷ []) ∙ sym (append_assoc line (10 ∷ more) (10 ∷ [])) ∙ ap (λ x. x ++ 10 ∷ []) (sym is)))
 
 body_by : (d : Text) (n : ℕ) (found t u : Text) → lacks 10 d ≡ true → length t + 2 ≤ n → StandsNowhere d t
     → body_from d n found (t ++ 10 ∷ (d ++ 10 ∷ u)) ≡ Some (found ++ (t ++ 10 ∷ []), 10 ∷ u)
