@@ -1,5 +1,5 @@
 -- The dispatch table changes no file but the copy.
-use Rattle.std.proofs.Common.{◌≡◌, ◌≢◌, ◌∙◌, ap, refl, ℕ, List, Bool, true, false, cond}
+use Rattle.std.proofs.Common.{◌≡◌, ◌≢◌, ◌∙◌, ap, refl, ℕ, Bool, true, false, cond}
 use Rattle.std.specs.Prelude.{Option, Some, None, ◌&&◌, codes, ◌∷◌}
 use Rattle.std.specs.Option.{is_some}
 use Rattle.std.specs.FinMap as fin
@@ -16,7 +16,7 @@ use Rattle.ap_shell.specs.declared.types.Env.{Env}
 use Rattle.ap_shell.specs.declared.types.Host.{Host}
 use Rattle.ap_shell.specs.declared.types.Outcome.{Outcome}
 use Rattle.ap_shell.specs.declared.types.Outcome.TheVariants.{Execs, Exits}
-use Rattle.ap_dispatch.specs.Dispatch.{by_header, by_mach, copy_name, dispatch, is_one_of, machine_name, named_header, runs_copy, system_name, with_copy}
+use Rattle.ap_dispatch.specs.Dispatch.{by_header, by_mach, copy_name, dispatch, is_one_of, machine_name, named_header, runs_copy, system_name}
 use Rattle.ap_dispatch.proofs.FileFacts.{differ, get_insert}
 
 -- the file of a name is as it was
