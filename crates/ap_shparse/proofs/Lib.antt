@@ -24,3 +24,4 @@ pub mod CommandMeets
 pub mod ListMeets
 pub mod ScriptMeets
 pub mod FrontMeets
+pub mod QuotedTexts
