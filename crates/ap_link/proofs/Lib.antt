@@ -13,6 +13,7 @@ pub mod LinkedImages
 pub mod PlacedTexts
 pub mod PeLinked
 pub mod MachLinked
+pub mod Dispatching
 pub mod LinkedFiles
 pub mod Building
 pub mod EndsBehind

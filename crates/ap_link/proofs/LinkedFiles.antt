@@ -63,6 +63,7 @@ use Rattle.ap_mach.specs.MachReading.{mach_reading}
 use Rattle.ap_link.proofs.MachImageProof.{mach-is-same}
 use Rattle.ap_link.proofs.MachLinked.{dd-moves, mach-text-is, mach-entry-low}
 use Rattle.ap_link.proofs.PlacedTexts.{text-held}
+use Rattle.ap_link.proofs.Dispatching.{script-dispatches}
 use Rattle.ap_link.proofs.TakenStatements.{block-magic, taken-block}
 
 -- what is taken of bytes
@@ -323,6 +324,7 @@ text-linked options a None h imports =
       first = carries options (inputs_of e None) l (tail_of e a None) 1 (tables_start options (inputs_of e None)) a (input_areas e BLOCK) meets differ fits (first-placed options e None) (first-linked options 1 a None h)
           imports.first;
       second = tt;
+      script = script-dispatches options e [] l (tail_of e a None) fits;
       moved = dd-moves options (inputs_of e None) l (tail_of e a None) fits;
       claims = claimed-file options e a None h;
       agree = claims-agree l.total (linked_claims options a None) (linked_text options a None) (claimed-file options e a None h);
@@ -348,6 +350,7 @@ text-linked options a (Some b) h imports =
           (first-placed options e (Some f)) (first-linked options 1 a o h) imports.first;
       second = carries options (inputs_of e (Some f)) l (tail_of e a o) 2 (tables_start options (inputs_of e (Some f)) + table_length e) b (input_areas f (input_end e)) meets differ fits
           (second-placed options e f) (second-linked options 2 e a b h) imports.second;
+      script = script-dispatches options e (f ∷ []) l (tail_of e a o) fits;
       moved = dd-moves options (inputs_of e (Some f)) l (tail_of e a o) fits;
       claims = claimed-file options e a o h;
       agree = claims-agree l.total (linked_claims options a (Some b)) (linked_text options a (Some b)) (claimed-file options e a o h);

@@ -33,6 +33,7 @@ use Rattle.ap_link.specs.declared.fault.LinkFault.TheVariants as fault
 use Rattle.ap_link.specs.Same.{Same, nothing_else}
 use Rattle.ap_link.specs.PeImages.{pe_else}
 use Rattle.ap_link.specs.Imported.{CarriesImports}
+use Rattle.ap_link.specs.Dispatched.{Dispatches}
 use Rattle.ap_link.specs.Linked.{taken_second}
 use Rattle.ap_link.specs.LinkedClaims.{linked_claims, linked_of}
 
@@ -81,8 +82,9 @@ CarriesSecond options a b file =
 
 -- What a linked file of one or two inputs is, and what stands of it: its bytes and its size; the here-document's body, which holds
 -- a zero in each eight bytes and has no line that ends it; that `printf '` stands in its window where the script has statements
--- and nowhere else, which are one for each input, that for x86-64 first; what it carries of each input; that `dd`, as the script
--- calls it, writes the Mach-O header over the first bytes; and that it is the file of its claims, which agree where they meet.
+-- and nowhere else, which are one for each input, that for x86-64 first; what it carries of each input; what its script does, and
+-- that `dd`, as the script calls it, writes the Mach-O header over the first bytes; and that it is the file of its claims, which
+-- agree where they meet.
 pub record IsLinked (options : Options) (a : List ℕ) (b : Option (List ℕ)) (file : List ℕ) : Type 0 where
   pub bytes : file ≡ linked_of options a b
   pub size : length file ≡ (positions_in options a b).total
@@ -94,6 +96,7 @@ pub record IsLinked (options : Options) (a : List ℕ) (b : Option (List ℕ)) (
   pub order : statement_place options (inputs_in a b) (positions_in options a b) X64 < statement_place options (inputs_in a b) (positions_in options a b) A64
   pub first : CarriesFirst options a b file
   pub second : IfSome b (λ c. CarriesSecond options a c file)
+  pub script : Dispatches options (inputs_in a b) (positions_in options a b) file
   pub moved : dd_effect true 8 ((positions_in options a b).mach_at / 8) ((positions_in options a b).mach_len / 8) file file ≡ over file (mach_in options a b)
   pub claims : IsFile (positions_in options a b).total (linked_claims options a b) file
   pub agree : Agree (linked_claims options a b)

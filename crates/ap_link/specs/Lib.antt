@@ -8,6 +8,7 @@ pub mod Images
 pub mod PeImages
 pub mod Imported
 pub mod MachImages
+pub mod Dispatched
 pub mod Answers
 pub mod FileAnswers
 pub mod Lent
