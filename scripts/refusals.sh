@@ -140,8 +140,8 @@ maps_small() {
 check_others() {
     local usage='usage: apetool *'
     check 'usage: no words' says 2 "$usage" "$apetool"
-    check 'usage: --systems is missing' says 2 "$usage" "$apetool" link -o "$new" "$work/small"
-    check 'usage: a system that is not built' says 2 "$usage" "$apetool" link --systems mac -o "$new" "$work/small"
+    check 'usage: -o is missing' says 2 "$usage" "$apetool" link --systems linux "$work/small"
+    check 'usage: an unknown system' says 2 "$usage" "$apetool" link --systems beos -o "$new" "$work/small"
     check 'usage: an option that is attached' says 2 "$usage" "$apetool" link --systems=linux -o "$new" "$work/small"
     check 'usage: OUT is IN' says 2 "$usage" "$apetool" link --systems linux -o "$work/small" "$work/small"
     check 'usage: three inputs' says 2 "$usage" link_two "$work/small" "$work/small" "$work/small"
