@@ -1,16 +1,15 @@
 -- A clause of the code, carried over an equation of meanings.
 use Rattle.std.proofs.Common.{◌≡◌, ◌∙◌, ap, sym, subst, List, drop, map}
-use Rattle.std.specs.Prelude.{Option, Some, Result, IfOk}
+use Rattle.std.specs.Prelude.{Option, Result, IfOk}
 use Rattle.std.proofs.Common.{ℕ, ◌<◌, ◌+◌, length, get_or, Bool}
 use Rattle.std.proofs.lemmas.List.{at_drop_more}
 use Rattle.ap_shell.specs.Files.{Text}
 use Rattle.ap_shell.specs.Steps.{Gives, ◌then_do◌}
 use Rattle.ap_shell.specs.Redirecting.{redirected, unless_failed, Redirects, plainly}
 use Rattle.ap_shell.specs.Simples.{redirection_meaning, target_meaning, assign_meaning, word_meaning}
-use Rattle.ap_shell.specs.Obeying.{assigned, name_to, Assigns, performed, obeyed, simply}
+use Rattle.ap_shell.specs.Obeying.{assigned, name_to, Assigns, performed, simply}
 use Rattle.ap_shell.specs.Words.{listed}
 use Rattle.ap_shell.specs.declared.types.Outcome.{Outcome}
-use Rattle.ap_shell.specs.declared.state.Variable.{Variable}
 use Rattle.ap_shell.specs.declared.types.Env.{Env}
 use Rattle.ap_shell.specs.declared.state.Routes.{Routes}
 use Rattle.ap_shparse.specs.declared.tree.Assign.{Assign, out-Assign}
@@ -54,11 +53,6 @@ pub simply_by : {E : Type 0} (env : Env) (words : List (Gives (List Text))) (red
 simply_by env words redirs assigns inside s s1 s2 new ws o r e f h =
     after r (listed words (record s { inner = 0 })) (λ w s3. redirected redirs plainly s3 then_do (λ p s4. performed env inside assigns w p s4)) ws s1 new e
     (after r (redirected redirs plainly s1) (λ p s4. performed env inside assigns ws p s4) o s2 new f h)
-
-pub performed_by : {E : Type 0} (env : Env) (inside : Bool) (assigns : List Assigns) (ws : List Text) (routes : Routes) (s s3 new : State) (before : List Variable) (r : Result (Option Outcome) E)
-    → before ≡ s.vars → assigned assigns s ≡ s3 → IfOk r (λ t. obeyed env inside before ws routes s3 ≡ (t, new)) → IfOk r (λ t. performed env inside assigns ws (Some routes) s ≡ (t, new))
-performed_by env inside assigns ws routes s s3 new before r e f h =
-    subst (λ x. IfOk r (λ t. obeyed env inside s.vars ws routes x ≡ (t, new))) (sym f) (subst (λ v. IfOk r (λ t. obeyed env inside v ws routes s3 ≡ (t, new))) e h)
 
 pub simply_is : (env : Env) (words : List (Gives (List Text))) (redirs : List Redirects) (assigns : List Assigns) (inside : Bool) (s s1 s2 : State) (ws : List Text) (o : Option Routes)
     → listed words (record s { inner = 0 }) ≡ (ws, s1) → redirected redirs plainly s1 ≡ (o, s2) → simply env words redirs assigns inside s ≡ performed env inside assigns ws o s2

@@ -1,12 +1,12 @@
 // Words, redirections, assignments and simple commands. Each error is want of memory.
-ghost use Rattle.std.specs.Prelude.{◌≡◌, IfOk, OnOk, map};
+ghost use Rattle.std.specs.Prelude.{◌≡◌, IfOk, OnOk, Some, map};
 ghost use Rattle.ap_shell.specs.Simples as simples;
 ghost use Rattle.ap_shell.specs.Words as texts;
 ghost use Rattle.ap_shell.specs.Redirecting as routing;
 ghost use Rattle.ap_shell.specs.Obeying as obeying;
 
 use crate::copies::{copy, copy_vars, copy_words, decimal, trimmed, unless_empty, value_of};
-use crate::obey::{assign, fail, obey};
+use crate::obey::{assign, fail, obey, obey_plain};
 use crate::redirect::{open_emptied, open_ensured, open_there, plainly, same};
 use crate::state::{Routes, State};
 use crate::types::{Env, Outcome};
@@ -183,6 +183,31 @@ fn assigned(alloc: Global, env: &Env, all: &[Assign], state: &mut State) -> Resu
     Ok(())
 }
 
+/// A command's assignments, and then the command.
+#[cycle(expand)]
+fn performed(
+    alloc: Global,
+    env: &Env,
+    inside: bool,
+    assigns: &[Assign],
+    words: &[Items<u8>],
+    routes: Routes,
+    state: &mut State,
+) -> Result<Option<Outcome>, AllocError>
+    ensures { IfOk result (λ o. obeying.performed env.now inside
+        (map (simples.assign_meaning env.now) assigns.now) words.now (Some routes) state.old
+        ≡ (o, state.new)) }
+{
+    // Nothing is put back then, and so nothing is copied.
+    if assigns.is_empty() || words.is_empty() {
+        assigned(alloc, env, assigns, state)?;
+        return obey_plain(alloc, env, inside, words, routes, state);
+    }
+    let before = copy_vars(alloc, state.vars.as_slice())?;
+    assigned(alloc, env, assigns, state)?;
+    obey(alloc, env, inside, before, words, routes, state)
+}
+
 /// A simple command.
 #[cycle(expand)]
 pub fn simple(
@@ -202,9 +227,8 @@ pub fn simple(
     match opened {
         None => Ok(fail(inside, words.as_slice(), state)),
         Some(routes) => {
-            let before = copy_vars(alloc, state.vars.as_slice())?;
-            assigned(alloc, env, command.assigns.as_slice(), state)?;
-            obey(alloc, env, inside, before, words.as_slice(), routes, state)
+            let assigns = command.assigns.as_slice();
+            performed(alloc, env, inside, assigns, words.as_slice(), routes, state)
         }
     }
 }

@@ -53,6 +53,26 @@ pub fn obey(
     Ok(ended)
 }
 
+/// The command, where no variable is put back after it.
+pub fn obey_plain(
+    alloc: Global,
+    env: &Env,
+    inside: bool,
+    words: &[Items<u8>],
+    routes: Routes,
+    state: &mut State,
+) -> Result<Option<Outcome>, AllocError>
+    ensures { IfOk result (λ o. spec.obeyed env.now inside state.old.vars words.now routes state.old
+        ≡ (o, state.new)) }
+{
+    let [name, more @ ..] = words else {
+        state.status = state.inner;
+        return Ok(None);
+    };
+    let command = command_of(inside, name.as_slice());
+    call(alloc, env, inside, command, more, routes, state)
+}
+
 /// What a redirection that failed leaves.
 pub fn fail(inside: bool, words: &[Items<u8>], state: &mut State) -> Option<Outcome>
     ensures { spec.failed inside words.now state.old ≡ (result, state.new) }

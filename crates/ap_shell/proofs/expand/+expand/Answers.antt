@@ -4,7 +4,7 @@ use Rattle.std.proofs.lemmas.Grind.{common_steps}
 use Rattle.ap_shell.specs.Redirecting as routing
 use Rattle.ap_shell.specs.Obeying as obeying
 use Rattle.ap_shell.specs.Simples as simples
-use Rattle.ap_shell.proofs.Carried.{after, assigned_turn, layer, performed_by, redirected_turn, simply_by, simply_is}
+use Rattle.ap_shell.proofs.Carried.{after, assigned_turn, layer, redirected_turn, simply_by, simply_is}
 use Rattle.ap_shparse.specs.declared.tree.Simple.{out-Simple}
 use Rattle.ap_shell.proofs.Layers.{part_text, part_variable, part_fallback, part_zero, part_process, part_output, word_args, word_parts, target_write, target_read, target_both, target_same, target_here, simple_out}
 use Rattle.ap_shell.proofs.expand.+expand.Goals as goal
@@ -62,8 +62,7 @@ pub simple-returns : goal.simple-returns
 simple-returns t c = layer _ _ _ _ _ (ap (λ k. k c.args.inside) (simple_out c.args.env.now c.args.command.now))
     (simply_by c.args.env.now (map (simples.word_meaning c.args.env.now) (out-Simple c.args.command.now).words) (map (simples.redirection_meaning c.args.env.now) (out-Simple c.args.command.now).redirections) (map (simples.assign_meaning c.args.env.now) (out-Simple c.args.command.now).assigns) c.args.inside c.args.state.now c.listed.new.state c.redirected.new.state _ c.in_ok-words.words (Some c.in-Some.routes) _
     (rw c.as_slice.ensures at c.in_ok-words.ensures) ((rw c.as_slice-redirections.ensures at (rw c.plainly.ensures at c.in_ok-opened.ensures)) ∙ ap (λ o. (o, c.redirected.new.state)) c.in-Some.is)
-    (performed_by c.args.env.now c.args.inside (map (simples.assign_meaning c.args.env.now) (out-Simple c.args.command.now).assigns) c.in_ok-words.words c.in-Some.routes c.redirected.new.state c.assigned.new.state _ c.in_ok-before-in-Some.before _
-    (rw c.as_slice-in-Some.ensures at c.in_ok-before-in-Some.ensures) (rw c.as_slice-in-Some-2.ensures at c.in_ok-assigned-in-Some.ensures) (rw c.as_slice-in-Some-3.ensures at c.obey.ensures)))
+    (rw c.as_slice-assigns.ensures at (rw c.as_slice-in-Some.ensures at c.performed.ensures)))
 
 pub redirected-returns-in-None : goal.redirected-returns-in-None
 redirected-returns-in-None t c = c.loop-one.invariant
