@@ -1,12 +1,14 @@
--- Newlines at the end of a text, and numbers in decimal.
-use Rattle.std.proofs.Common.{◌≡◌, ◌∙◌, ap, ap₂, sym, refl, ℕ, zero, suc, ◌+◌, ◌-◌, ◌*◌, ◌<◌, ◌≤◌, [], ◌∷◌, ◌++◌, length, take, drop, get_or, Bool, true, false, cond, ◌==◌, arith}
+-- Newlines at the end of a text, the last of the variables, and numbers in decimal.
+use Rattle.std.proofs.Common.{◌≡◌, ◌∙◌, ap, ap₂, sym, refl, ℕ, zero, suc, ◌+◌, ◌-◌, ◌*◌, ◌<◌, ◌≤◌, List, [], ◌∷◌, ◌++◌, length, take, drop, get_or, Bool, true, false, cond, ◌==◌, arith}
 use Rattle.std.specs.Prelude.{◌&&◌, nat_le, Some, None}
 use Rattle.std.proofs.lemmas.Bool.{eqb-true}
 use Rattle.std.proofs.lemmas.Bool.Decides.{nat_tests}
 use Rattle.std.proofs.lemmas.List.{at_drop_more, take_more}
 use Rattle.ap_octal.specs.DdPlace.{is_digit, with_digits}
 use Rattle.ap_shell.specs.Files.{Text}
-use Rattle.ap_shell.specs.Words.{all_newlines, trimmed}
+use Rattle.std.specs.Str.{bytes_eq}
+use Rattle.ap_shell.specs.Words.{all_newlines, trimmed, value_among, value_of}
+use Rattle.ap_shell.specs.declared.state.Variable.{Variable}
 use Rattle.ap_shell.specs.EndCommands.{at_most_255, status_of}
 
 -- ---- newlines at the end
@@ -35,23 +37,37 @@ pub trimmed_other : (t : Text) (c : ℕ) → (c == 10) ≡ false → trimmed (t 
 trimmed_other [] c other = ap (λ x. cond (x && true) [] (c ∷ [])) other
 trimmed_other (b ∷ t) c other = ap₂ (λ a r. cond a [] (b ∷ r)) (not_all (b ∷ t) c other) (trimmed_other t c other)
 
-last_of : (t : Text) (end : ℕ) → 0 < end → end ≤ length t → take end t ≡ take (end - 1) t ++ get_or t (end - 1) 0 ∷ []
-last_of t end some within =
+last_of : {X : Type 0} (xs : List X) (end : ℕ) (d : X) → 0 < end → end ≤ length xs → take end xs ≡ take (end - 1) xs ++ get_or xs (end - 1) d ∷ []
+last_of xs end d some within =
     let e : end ≡ end - 1 + 1 = omega arith in
-    ap (λ k. take k t) e ∙ take_more t (end - 1) 0 (omega arith)
+    ap (λ k. take k xs) e ∙ take_more xs (end - 1) d (omega arith)
 
 -- one newline less
 pub trimmed_less : (t : Text) (end : ℕ) → 0 < end → end ≤ length t → get_or t (end - 1) 0 ≡ 10 → trimmed (take end t) ≡ trimmed (take (end - 1) t)
 trimmed_less t end some within newline =
-    ap trimmed (last_of t end some within ∙ ap (λ c. take (end - 1) t ++ c ∷ []) newline) ∙ trimmed_newline (take (end - 1) t)
+    ap trimmed (last_of t end 0 some within ∙ ap (λ c. take (end - 1) t ++ c ∷ []) newline) ∙ trimmed_newline (take (end - 1) t)
 
 -- and no more newlines
 pub trimmed_end : (t : Text) (end : ℕ) → end ≤ length t → (0 < end → get_or t (end - 1) 0 ≡ 10 → ⊥) → trimmed (take end t) ≡ take end t
 trimmed_end t zero within other = refl
 trimmed_end t (suc n) within other =
-    let e : take (suc n) t ≡ take (suc n - 1) t ++ get_or t (suc n - 1) 0 ∷ [] = last_of t (suc n) (omega arith) within in
+    let e : take (suc n) t ≡ take (suc n - 1) t ++ get_or t (suc n - 1) 0 ∷ [] = last_of t (suc n) 0 (omega arith) within in
     let h : (get_or t (suc n - 1) 0 == 10) ≡ false = false_by (get_or t (suc n - 1) 0 == 10) (λ is. other (omega arith) (eqb-true (get_or t (suc n - 1) 0) 10 is)) in
     ap trimmed e ∙ trimmed_other (take (suc n - 1) t) (get_or t (suc n - 1) 0) h ∙ sym e
+
+-- ---- variables
+
+value_behind : (name found : Text) (xs : List Variable) (v : Variable) → value_among name found (xs ++ v ∷ []) ≡ cond (bytes_eq v.name name) v.value (value_among name found xs)
+value_behind name found [] v = refl
+value_behind name found (x ∷ xs) v = value_behind name (cond (bytes_eq x.name name) x.value found) xs v
+
+-- the last variable counts where it has the name, and else those before it
+pub value_last : (name : Text) (vars : List Variable) (end : ℕ) (v : Variable) (b : Bool) → 0 < end → end ≤ length vars → v ≡ get_or vars (end - 1) v → bytes_eq v.name name ≡ b
+    → value_of name (take end vars) ≡ cond b v.value (value_of name (take (end - 1) vars))
+value_last name vars end v b some within is same =
+    ap (value_of name) (last_of vars end v some within ∙ ap (λ x. take (end - 1) vars ++ x ∷ []) (sym is))
+    ∙ value_behind name [] (take (end - 1) vars) v
+    ∙ ap (λ k. cond k v.value (value_of name (take (end - 1) vars))) same
 
 -- ---- decimal digits
 

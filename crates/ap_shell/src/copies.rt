@@ -42,13 +42,15 @@ pub fn copy_vars(alloc: Global, vars: &[Variable]) -> Result<Items<Variable>, Al
 pub fn value_of(alloc: Global, name: &[u8], vars: &[Variable]) -> Result<Items<u8>, AllocError>
     ensures { IfOk result (λ t. t ≡ words.value_of name.now vars.now) }
 {
-    let mut found: &[u8] = &[];
-    for var in vars {
+    let mut end = vars.len();
+    while end > 0 {
+        end -= 1;
+        let var = &vars[end];
         if var.name.as_slice() == name {
-            found = var.value.as_slice();
+            return copy(alloc, var.value.as_slice());
         }
     }
-    copy(alloc, found)
+    Ok(Items::new(alloc))
 }
 
 /// The value, or another text where it is empty.

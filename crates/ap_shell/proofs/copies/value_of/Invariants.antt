@@ -1,6 +1,12 @@
-use Rattle.std.proofs.Common.{◌≡◌, drop, []}
-use Rattle.ap_shell.specs.Words.{value_among}
+use Rattle.std.proofs.Common.{◌≡◌, ◌≤◌, length, take}
+use Rattle.ap_shell.specs.Words.{value_of}
 use Rattle.ap_shell.proofs.copies.value_of.Given as goal
 
-abbrev pub invariant-loop-var : goal.invariant-loop-var
-invariant-loop-var l = value_among l.name [] l.vars ≡ value_among l.name l.found (drop l.var-index l.vars)
+abbrev pub invariant-loop-end : goal.invariant-loop-end
+invariant-loop-end l = record {
+  within : l.end ≤ length l.vars;
+  same : value_of l.name l.vars ≡ value_of l.name (take l.end l.vars);
+}
+
+abbrev pub decreases-loop-end : goal.decreases-loop-end
+decreases-loop-end l = l.end
