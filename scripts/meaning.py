@@ -31,9 +31,11 @@ HOSTS = [  # the answers of `uname -s` and `uname -m`, and whether there is a co
     ("NetBSD", "aarch64", False),
     ("Linux", "arm64", False),
     ("Darwin", "arm64", False),
-    ("Linux", "riscv64", True),
+    ("Darwin", "x86_64", False),
+    ("Linux", "riscv64", False),
+    ("NetBSD", "x86_64", True),
 ]
-UNIX = ["linux", "freebsd", "netbsd"]
+UNIX = ["linux", "freebsd", "netbsd", "mac"]
 PROGRAMS = {"x86-64": "S", "aarch64": "OTHER"}  # files of scripts/rows.txt
 
 
@@ -177,21 +179,40 @@ class Meaning:
             return
         for system, machine, ape in hosts:
             run = self.alike(f"{name}: {system} {machine}", read(path)[0], (system, machine, ape))
-            if "copy" in run.files:
-                self.copied(name, path, run.files["copy"], "x86-64" if machine in ["x86_64", "amd64"] else "aarch64")
+            if "copy" not in run.files:
+                continue
+            copy = run.files["copy"][0]
+            if system == "Darwin":
+                self.moved(name, read(path)[0], copy)
+            else:
+                self.copied(name, path, copy, "x86-64" if machine in ["x86_64", "amd64"] else "aarch64")
 
     def copied(self, name, path, copy, machine):
+        """Whether a copy with an ELF header is mapped as the linked file is loaded."""
         copied = os.path.join(self.other, "copy")
         with open(copied, "wb") as file:
-            file.write(copy[0])
+            file.write(copy)
         loaded = self.apetool_on("load", "--machine", machine, path).stdout
         mapped = self.apetool_on("map", "--as", "elf", "--machine", machine, copied).stdout
         faults = []
         if not loaded or loaded != mapped:
             faults.append("the copy isn't mapped as the linked file is")
-        if read(path)[0][64:] != copy[0][64:]:
+        if read(path)[0][64:] != copy[64:]:
             faults.append("the copy isn't the linked file behind its header")
         self.tell(f"{name}: the copy of {machine}", b"", faults)
+
+    def moved(self, name, linked, copy):
+        """Whether a copy is a Mach-O file by the header that stands at 8192 of the linked file, and else that file."""
+        copied = os.path.join(self.other, "copy")
+        with open(copied, "wb") as file:
+            file.write(copy)
+        end = 32 + int.from_bytes(copy[20:24], "little")
+        faults = []
+        if copy != linked[8192 : 8192 + end] + linked[end:]:
+            faults.append("the copy isn't the linked file with the header over its front")
+        if self.apetool_on("map", "--as", "mach", copied).returncode:
+            faults.append("the copy isn't taken by map --as mach")
+        self.tell(f"{name}: the copy for macOS", b"", faults)
 
 
 def read(path):
@@ -224,7 +245,8 @@ def files_of(path):
 
 def system_lists():
     """The systems that make scripts of their own: Windows alone, and some of the others."""
-    return ["windows", *(",".join(some) for count in (1, 2, 3) for some in itertools.combinations(UNIX, count))]
+    some = [",".join(names) for count in (1, 2, 3, 4) for names in itertools.combinations(UNIX, count)]
+    return ["windows", *some]
 
 
 def main(apetool, execs, rows, folder, *shells):

@@ -1,5 +1,5 @@
 #!/usr/bin/env bash
-# Compares what `apetool script` tells of some three hundred scripts with what shells do. Usage: scripts/meaning.sh [APETOOL]
+# Compares what `apetool script` tells of some four hundred scripts with what shells do. Usage: scripts/meaning.sh [APETOOL]
 # shellcheck source=scripts/lib.sh
 . "$(dirname "$0")/lib.sh"
 # shellcheck source=scripts/running.sh
