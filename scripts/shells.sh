@@ -53,6 +53,13 @@ check_systems() { # SHELL..
     for system in aarch64 FreeBSD Darwin; do
         check "$*: the status is 126 on $system" ends 126 env PATH="$work/$system:$PATH" "$@" "$file" "${words[@]}"
     done
+    for system in amd64 FreeBSD NetBSD; do
+        check "$*: for all systems, it runs on $system" is_program env PATH="$work/$system:$PATH" "$@" "$work/every"
+    done
+    check "$*: for all systems, the status is 125 on macOS on AArch64" \
+        ends 125 env PATH="$work/macos:$PATH" "$@" "$work/every" "${words[@]}"
+    check "$*: for all systems, the status is 126 on another system" \
+        ends 126 env PATH="$work/other:$PATH" "$@" "$work/every" "${words[@]}"
 }
 
 begin_running
@@ -65,10 +72,14 @@ fake "$work/loader" ape 'file=$1' 'shift' "[ \"\$file\" = '$work/hello' ] && exe
 fake "$work/amd64" uname '[ "$1" = -m ] && echo amd64 || echo Linux'
 fake "$work/aarch64" uname '[ "$1" = -m ] && echo aarch64 || echo Linux'
 fake "$work/FreeBSD" uname '[ "$1" = -m ] && echo amd64 || echo FreeBSD'
+fake "$work/NetBSD" uname '[ "$1" = -m ] && echo x86_64 || echo NetBSD'
+fake "$work/macos" uname '[ "$1" = -m ] && echo arm64 || echo Darwin'
+fake "$work/other" uname '[ "$1" = -m ] && echo x86_64 || echo OpenBSD'
 fake "$work/Darwin" uname '[ "$1" = -m ] && echo x86_64 || echo Darwin'
 
 check 'the example is built' "$root/examples/build.sh" hello x86-64 "$work/hello.elf"
 check 'the example is linked' link "$file" "$work/hello.elf"
+check 'the example is linked for all systems but Windows' "$apetool" link -o "$work/every" "$work/hello.elf"
 cp "$file" "$work/hello.before"
 
 for shell in sh 'bash --posix' "${shells[@]}"; do
