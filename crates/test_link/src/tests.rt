@@ -1,6 +1,7 @@
 // Small programs linked from files, and from memory. What each link writes is in rows of scripts/rows.txt.
 ghost use Rattle.std.specs.Prelude.{◌≡◌, ◌≢◌, IfSome, option_copied, codes, false};
 
+mod dispatch;
 mod mac;
 mod windows;
 
