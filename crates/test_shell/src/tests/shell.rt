@@ -198,6 +198,13 @@ const TOLD: &[Told] = &[
         Some(b"/t"),
         "printf \"${TMPDIR:-/tmp}\" => exits 0, out /t",
     ),
+    (
+        &[],
+        false,
+        Some(b"/t m'p *$x\n"),
+        "t=\"${TMPDIR:-/tmp}/ape.$$\"; cp d \"$t\"; chmod 700 \"$t\"; cp \"$t\" f; exec \"$t\" \"$@\" => \
+         execs /t m'p *$x\n/ape.7 [1] [2 3], f 0700 0123456789",
+    ),
 ];
 
 #[test]
