@@ -238,12 +238,20 @@ check_both() {
     made 'with AArch64' 'aarch64-linux-gnu-as aarch64-linux-gnu-ld' "$examples/build.sh" hello aarch64 "$arm" || return
     check 'with AArch64: it is linked' link_for linux,windows "$work/both" "$program" "$arm"
     check_linked 'with AArch64' "$work/both"
-    is_there "$qemu" || { skip 'with AArch64: qemu' "there is no $qemu" && return; }
-    cp "$work/both" "$work/copy"
-    t=$work/copy bash -c "$(grep -a "^printf '" "$work/both" | tail -n 1)"
-    check 'with AArch64: qemu runs that program' same_as "$qemu" "$arm" -- "$qemu" "$work/copy" "${words[@]}"
+    check_qemu 'with AArch64' "$work/both"
     check 'with AArch64 first: it is linked' link_for linux,windows "$work/both" "$arm" "$program"
     check_linked 'with AArch64 first' "$work/both"
+    check 'for all systems: it is linked' link_for linux,freebsd,netbsd,windows,mac "$work/both" "$program" "$arm"
+    check_linked 'for all systems' "$work/both"
+    check_qemu 'for all systems' "$work/both"
+}
+
+# The program for AArch64, by the script's own line for it.
+check_qemu() { # WHAT FILE
+    is_there "$qemu" || { skip "$1: qemu" "there is no $qemu" && return; }
+    cp "$2" "$work/copy"
+    t=$work/copy bash -c "$(grep -a "^printf '" "$2" | tail -n 1)"
+    check "$1: qemu runs that program" same_as "$qemu" "$arm" -- "$qemu" "$work/copy" "${words[@]}"
 }
 
 # The example by other linkers, of which lld and mold put programs below 0x400000 by themselves.
