@@ -1,12 +1,13 @@
 #!/bin/sh
 # Builds an example into the file OUT, on x86-64 Linux: a static ELF program for one machine.
 # hello is of the machine's assembler and uses no library; threads is threads.c with the start stub start.S; windows is hello
-# with what it does on Windows, windows.c and imports.S, and is for x86-64 alone.
-# Usage: examples/build.sh hello|threads|windows x86-64|aarch64 OUT
+# with what it does on Windows, windows.c and imports.S, and is for x86-64 alone; shared is shared.c with the start stub, and its
+# data in a load of their own.
+# Usage: examples/build.sh hello|threads|windows|shared x86-64|aarch64 OUT
 set -eu
 
 usage() {
-    echo 'usage: examples/build.sh hello|threads|windows x86-64|aarch64 OUT' >&2
+    echo 'usage: examples/build.sh hello|threads|windows|shared x86-64|aarch64 OUT' >&2
     exit 2
 }
 
@@ -37,6 +38,11 @@ windows)
 threads)
     need "${prefix}gcc" "gcc$package"
     "${prefix}gcc" -O2 -static -pthread -o "$out" "$here/threads.c" "$here/start.S" -Wl,-e,ape_start
+    ;;
+shared)
+    need "${prefix}gcc" "gcc$package"
+    "${prefix}gcc" -O2 -static -o "$out" "$here/shared.c" "$here/start.S" -Wl,-e,ape_start \
+        -Wl,--section-start=shared=0x10000000
     ;;
 hello)
     need "${prefix}as" "binutils$package"

@@ -1,6 +1,7 @@
 #!/bin/sh
 # Builds the examples into the folder OUT and links each by apetool into one file for Linux: for x86-64, and for AArch64
-# too where the cross tools are there. The example windows is linked for Windows besides, with hello for AArch64.
+# too where the cross tools are there. The example windows is linked for Windows besides, with hello for AArch64, and the example
+# shared for both machines alone, that for AArch64 first.
 # Usage: examples/link.sh APETOOL OUT
 set -eu
 
@@ -30,3 +31,10 @@ set -- "$out/windows.x64"
 [ ! -f "$out/hello.a64" ] || set -- "$@" "$out/hello.a64"
 "$apetool" link --systems linux,windows -o "$out/windows" "$@"
 echo "$out/windows: $*"
+
+if "$here/build.sh" shared aarch64 "$out/shared.a64"; then
+    "$here/build.sh" shared x86-64 "$out/shared.x64"
+    set -- "$out/shared.a64" "$out/shared.x64"
+    "$apetool" link --systems linux -o "$out/shared" "$@"
+    echo "$out/shared: $*"
+fi

@@ -17,6 +17,10 @@ ends_and_keeps() { # STATUS COMMAND..
     ends "$@" && diff -r "$work/before" . >"$work/differences"
 }
 
+not() { # COMMAND..
+    ! "$@"
+}
+
 is_linked() { # FILE
     [ -f "$1" ] && cmp -s "$1" "$work/linked"
 }
@@ -58,10 +62,14 @@ check 'the old file keeps its other links' holds other old
 check 'nothing else is left' [ "$(count_of)" = 3 ]
 
 begin neighbours
-printf 'mine' >out.0
+printf 'mine' >.ape0
 check 'a file whose name is that of the unfinished one is kept' ends 0 link out in
-check 'it holds what it held' holds out.0 mine
+check 'it holds what it held' holds .ape0 mine
 check 'the linked file stands beside it' is_linked out
+longest=$(printf '%0255d' 0)
+check 'a name of 255 bytes is taken' ends 0 link "$longest" in
+check 'the linked file stands under it' is_linked "$longest"
+check 'a name of 256 bytes ends with 4' ends_and_keeps 4 link "0$longest" in
 
 begin spelled
 check 'the input may be the output by another spelling' ends 0 link ./in in
@@ -126,6 +134,13 @@ limited() {
 }
 check 'a write that fails ends with 4 and keeps the old file' ends_and_keeps 4 limited out
 check 'a write that fails leaves no new file' ends_and_keeps 4 limited new
+signalled() {
+    (ulimit -f 8 && exec "$apetool" link --systems linux -o out in)
+}
+check 'the signal of that limit ends the program with 153' ends 153 signalled
+check 'no line of the program is printed' not grep -q apetool: "$work/errors"
+check 'the old file is kept' holds out old
+check 'the new file is left beside it' [ -n "$(find . -name '.ape[0-9]*')" ]
 
 begin devices
 check 'a device takes the linked file' ends 0 link /dev/null in
@@ -179,7 +194,28 @@ if is_there strace && strace -o /dev/null true 2>"$work/errors"; then
     }
     strace -e trace=open,openat,openat2 -o trace "$apetool" link --systems linux -o out in
     check 'the input is opened once' [ "$(opens in)" = 1 ]
-    check 'the new file is opened once' [ "$(opens 'out\.[0-9]+')" = 1 ]
+    check 'the new file is opened once' [ "$(opens '\.ape[0-9]+')" = 1 ]
+    # Both inputs are replaced while they are read: each opening by name would find the other file.
+    elf_headers 5000 | sed 's/\x3e\x00/\xb7\x00/' >other
+    head -c 5000 /dev/zero | tr '\0' y >>other
+    if "$apetool" link --systems linux -o both in other 2>errors; then
+        strace -e trace=open,openat,openat2 -o trace "$apetool" link --systems linux -o again in other
+        check 'of two inputs the first is opened once' [ "$(opens in)" = 1 ]
+        check 'and so is the second' [ "$(opens other)" = 1 ]
+        cp in kept
+        cp other kept_other
+        # A delay of 20 ms a read leaves time to rename other files over both.
+        strace -e trace=pread64 -e inject=pread64:delay_enter=20000 -o trace \
+            "$apetool" link --systems linux -o replaced in other 2>errors &
+        linking=$!
+        sleep 0.2
+        head -c 9000 /dev/zero >new && mv new in
+        head -c 9000 /dev/zero >new && mv new other
+        wait "$linking"
+        check 'inputs that are replaced during the link are read to their end' cmp -s both replaced
+    else
+        skip 'two inputs' "the second one isn't taken: $(head -n 1 errors)"
+    fi
 else
     skip 'how often a file is opened' 'strace is missing, or may not trace here'
 fi

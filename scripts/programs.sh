@@ -37,6 +37,41 @@ check_both() {
     check 'two programs: qemu runs that for AArch64' same_as "$qemu" "$a64" -- "$qemu" "$work/copy" "${words[@]}"
 }
 
+# Two programs with the same data, of which the linked file holds one copy. The program for AArch64 is the first, so that the
+# area is at a multiple of the granules of both.
+check_shared() {
+    local x64=$work/x64 a64=$work/a64 words=(5 300 49663 49664) at
+    made 'shared data' "gcc aarch64-linux-gnu-gcc $qemu" make_shared || return
+    check 'shared data: they are linked' "$apetool" link --systems linux -o "$work/linked" "$a64" "$x64"
+    check 'shared data: one area serves both machines' is_shared
+    check 'shared data: sh runs the program for x86-64' is_same "$x64" sh "$work/linked" "${words[@]}"
+    cp "$work/linked" "$work/copy" && chmod 700 "$work/copy"
+    t=$work/copy bash -c "$(grep -a "^printf '" "$work/linked" | tail -n 1)"
+    check 'shared data: qemu runs that for AArch64' same_as "$qemu" "$a64" -- "$qemu" "$work/copy" "${words[@]}"
+    at=$("$apetool" map --as elf "$x64" | data_place)
+    cp "$x64" "$work/other"
+    printf x | dd of="$work/other" bs=1 seek=$((16#$at + 212991)) conv=notrunc 2>"$work/said"
+    check 'shared data: the last byte of one is changed' "$apetool" link --systems linux -o "$work/apart" "$a64" "$work/other"
+    check 'shared data: then the file is 212992 bytes longer' \
+        [ $(($(wc -c <"$work/apart") - $(wc -c <"$work/linked"))) = 212992 ]
+}
+
+make_shared() {
+    "$root/examples/build.sh" shared x86-64 "$x64" && "$root/examples/build.sh" shared aarch64 "$a64"
+}
+
+is_shared() {
+    local one other
+    one=$("$apetool" load "$work/linked" | data_place)
+    other=$("$apetool" load --machine aarch64 "$work/linked" | data_place)
+    [ -n "$one" ] && [ "$one" = "$other" ]
+}
+
+# Where the data stand in a file, from its plan.
+data_place() {
+    awk '$1 == "0000000010000000" { print $4 }'
+}
+
 make_both() {
     "$root/examples/build.sh" threads x86-64 "$x64" && "$root/examples/build.sh" threads aarch64 "$a64"
 }
@@ -55,4 +90,5 @@ else
 fi
 compile 'Go' go env GOFLAGS= CGO_ENABLED=0 go build -o "$work/program" "$root/examples/arguments.go"
 check_both
+check_shared
 finish

@@ -142,7 +142,7 @@ check_others() {
     check 'usage: no words' says 2 "$usage" "$apetool"
     check 'usage: -o is missing' says 2 "$usage" "$apetool" link --systems linux "$work/small"
     check 'usage: an unknown system' says 2 "$usage" "$apetool" link --systems beos -o "$new" "$work/small"
-    check 'usage: an option that is attached' says 2 "$usage" "$apetool" link --systems=linux -o "$new" "$work/small"
+    check 'usage: an option that is given twice' says 2 "$usage" "$apetool" link --systems linux --systems=linux -o "$new" "$work/small"
     check 'usage: OUT is IN' says 2 "$usage" "$apetool" link --systems linux -o "$work/small" "$work/small"
     check 'usage: three inputs' says 2 "$usage" link_two "$work/small" "$work/small" "$work/small"
     check 'usage: help' says 2 "$usage" "$apetool" --help
@@ -155,7 +155,7 @@ check_others() {
     else
         skip 'cannot print' 'there is no /dev/full'
     fi
-    cp "$work/linked" "$file" && put "$file" $((96 + 40)) 8 $((1 << 29))
+    cp "$work/linked" "$file" && truncate -s 400000000 "$file" # it is read whole
     if (ulimit -v 200000 && "$apetool" load "$work/linked") >"$work/said" 2>&1; then
         check 'no memory' says 5 'no memory' sh -c 'ulimit -v 200000; "$0" load --dump "$1" "$2"' "$apetool" "$new" "$file"
     else

@@ -209,31 +209,50 @@ check_readme() {
     is_there gcc || { skip 'the commands of README.md' 'there is no gcc' && return; }
     mkdir -p "$work/reader/crates/apetool/out"
     ln -s "$examples" "$work/reader/examples"
+    ln -s "$root/scripts" "$work/reader/scripts"
     ln -s "$apetool" "$work/reader/crates/apetool/out/apetool"
-    check 'the two commands of README.md make the file' reads 1
-    check 'it prints and ends as README.md says' prints_as_said
+    check 'the first command of README.md makes the file' makes "$(block README.md 2 | sed -n 1p)"
+    check 'the second prints and ends as README.md says' prints_as_said
     if is_there aarch64-linux-gnu-gcc; then
-        check 'the commands for both machines make the file' reads 3
+        check 'the commands by hand of docs/RUNS.md make the file' makes "$(block docs/RUNS.md 1)"
         check 'it prints and ends likewise' prints_as_said
     else
-        skip 'the commands of README.md for both machines' 'there is no aarch64-linux-gnu-gcc'
+        skip 'the commands by hand of docs/RUNS.md' 'there is no aarch64-linux-gnu-gcc'
+    fi
+    block README.md 9 >"$work/wanted"
+    if [ "$("$apetool" inspect "$work/examples/threads" | head -n 1)" = "$(head -n 1 "$work/wanted")" ]; then
+        check 'inspect prints what README.md shows' reports_as_said
+    else
+        skip 'what inspect prints' "the example has another size here than in README.md"
     fi
 }
 
-block() { # NUMBER
-    awk -v number="$1" '/^```/ { count++; next } count == 2 * number - 1' "$root/README.md"
+# A block of code of a page.
+block() { # PAGE NUMBER
+    awk -v number="$2" '/^```/ { count++; next } count == 2 * number - 1' "$root/$1"
 }
 
-reads() { # NUMBER
-    block "$1" >"$work/reader/commands" && (cd "$work/reader" && rm -f hello && sh -e commands && [ -f hello ])
+# Whether the lines that README.md shows stand in the report in their order, with others between them at `..` alone.
+reports_as_said() {
+    "$apetool" inspect "$work/examples/threads" | awk '
+        NR == FNR { wanted[++count] = $0; next }
+        wanted[at + 1] == $0 { at++; next }
+        wanted[at + 1] == ".." { if (wanted[at + 2] == $0) at += 2; next }
+        { exit 1 }
+        END { if (at != count) exit 1 }
+    ' "$work/wanted" -
+}
+
+makes() { # COMMANDS
+    (cd "$work/reader" && rm -f hello && APECC_APETOOL=$apetool sh -ec "$1" >/dev/null && [ -f hello ])
 }
 
 prints_as_said() {
     local status
     mkdir -p "$work/tmp"
-    (cd "$work/reader" && unset GREETING && TMPDIR=$work/tmp sh -c "$(block 2 | sed -n 's/^\$ //p')") >"$work/printed"
+    (cd "$work/reader" && unset GREETING && TMPDIR=$work/tmp sh -c "$(block README.md 2 | sed -n 2p)") >"$work/printed"
     status=$?
-    block 2 | grep -v '^\$' | cmp -s - "$work/printed" && [ "$status" = 2 ]
+    block README.md 3 | cmp -s - "$work/printed" && [ "$status" = 2 ]
 }
 
 # A program by which the rest is tried: threads.c, or the assembler one.
@@ -369,18 +388,74 @@ check_statuses() {
         check "$shell: status 126 on a system that wasn't chosen" ends 126 env PATH="$work/Darwin:$PATH" $shell "$file"
         check "$shell: status 126 on a machine without a program" ends 126 env PATH="$work/riscv64:$PATH" $shell "$file"
     done
-    mkdir "$work/few" && ln -s "$(type -P uname)" "$(type -P chmod)" "$work/few"
-    check 'status 121 where the command cp is not found' ends 121 env PATH="$work/few" "$(type -P sh)" "$file"
+    check 'status 121 where a limit of the size of files is met' ends 121 bash -c 'ulimit -f 8 && exec sh "$@"' sh "$file"
+    check_missing_tools
+    check_folders
+    check_names
+}
+
+check_missing_tools() {
+    local sh bash
+    sh=$(type -P sh)
+    bash=$(type -P bash)
+    check 'status 126 where the command uname is not found' ends 126 env PATH=/nowhere "$sh" "$file"
+    tools uname chmod
+    check 'status 121 where the command cp is not found' ends 121 env PATH="$work/few" "$sh" "$file"
+    tools uname cp
+    check 'status 122 where the command chmod is not found' ends 122 env PATH="$work/few" "$sh" "$file"
+    tools uname cp chmod
+    check 'status 124 where no printf is found' ends 124 env PATH="$work/few" BASH_ENV="$work/no-printf" "$bash" "$file"
+}
+
+tools() { # TOOL..
+    local tool
+    rm -rf "$work/few" && mkdir "$work/few"
+    for tool; do ln -s "$(type -P "$tool")" "$work/few"; done
+}
+
+# Folders that take no copy, or none that may be started.
+check_folders() {
     if [ "$(id -u)" = 0 ] && is_there unshare && unshare -m mount -t tmpfs -o noexec none /mnt 2>"$work/said"; then
-        check 'status 121 where TMPDIR is full' ends 121 unshare -m sh -c \
-            'mount -t tmpfs -o size=16k none /mnt && TMPDIR=/mnt exec sh "$@"' sh "$file"
-        check 'status 126 of the shell where TMPDIR runs no programs' ends 126 unshare -m sh -c \
-            'mount -t tmpfs -o noexec none /mnt && TMPDIR=/mnt exec sh "$@"' sh "$file"
+        check 'status 121 where TMPDIR is full' ends_on 121 size=16k
+        check 'a part of the copy is left' [ "$(cat "$work/left")" -lt "$(stat -c %s "$file")" ]
+        check 'status 126 of the shell where TMPDIR runs no programs' ends_on 126 noexec
         check 'and its line says so' grep -q 'Permission denied' "$work/errors"
+        check 'the whole copy is left' [ "$(cat "$work/left")" = "$(stat -c %s "$file")" ]
     else
         skip 'a TMPDIR that is full, or runs no programs' 'it takes root, and a mount'
     fi
-    check 'status 126 where the command uname is not found' ends 126 env PATH=/nowhere "$(type -P sh)" "$file"
+    if [ "$(id -u)" = 0 ] && is_there setpriv; then
+        chmod 711 "$work"
+        check "status 122 where the copy's name is another user's file" ends 122 bash -c \
+            ': >"$TMPDIR/ape.$$" && chmod 666 "$TMPDIR/ape.$$" && exec setpriv --reuid=65534 --regid=65534 --clear-groups -- sh "$@"' sh "$file"
+        chmod 700 "$work"
+    else
+        skip "a copy's name that is another user's file" 'it takes root'
+    fi
+}
+
+# A start whose TMPDIR is a file system of its own. The size of what it leaves there is kept.
+ends_on() { # STATUS OPTION
+    ends "$1" unshare -m sh -c 'mount -t tmpfs -o "$0" none /mnt && {
+        TMPDIR=/mnt sh "$1"
+        ended=$?
+        stat -c %s /mnt/ape.* >"$2"
+        exit "$ended"
+    }' "$2" "$file" "$work/left"
+}
+
+# Names that cp takes for options, and a file that comes through a pipe.
+check_names() {
+    mkdir "$work/dashes" "$work/dashes/-tmp"
+    cp "$file" "$work/dashes/-file"
+    check 'status 121 where TMPDIR begins with -' in_dashes ends 121 env TMPDIR=-tmp sh "$file"
+    check 'status 121 where FILE begins with -' in_dashes ends 121 sh -- -file
+    check 'it runs as ./-file' in_dashes runs sh ./-file
+    check 'status 121 where FILE is piped into sh' in_dashes ends 121 sh -c 'cat "$0" | sh' "$file"
+}
+
+in_dashes() { # COMMAND..
+    (cd "$work/dashes" && "$@")
 }
 
 check_copies() {
@@ -391,11 +466,64 @@ check_copies() {
     cp "$work/tmp"/ape.* "$work/copy"
     check 'the copy is the program for this machine, and starts by itself' runs "$work/copy"
     check 'a file that is there under its name is overwritten, and a link is followed' follows_link
+    check_meetings
     check 'twelve at once have a copy each' run_twelve
-    if [ -n "${reads-}" ]; then check 'the program has the process and the name of its copy, which may be removed' names_copy; fi
+    if [ -n "${reads-}" ]; then
+        check 'the program has the process and the name of its copy, which may be removed' names_copy
+        check 'messages of getopt begin with the name of the copy' getopt_names_copy
+    fi
+    if link "$work/box" "$(type -P busybox)" 2>"$work/said"; then
+        check 'busybox finds no applet of the name of the copy' busybox_names_copy
+    else
+        skip 'busybox as a linked file' 'there is no static one'
+    fi
     check 'TMPDIR may hold blanks and quotes' runs env TMPDIR="$work/t m'p" sh "$file"
     check 'the file may stand where nothing can be written' runs_read_only
     check 'no run changed the linked file' cmp -s "$file" "$work/before"
+}
+
+# What becomes of a copy whose name another start, or a program that runs, has too.
+check_meetings() {
+    check 'a program that runs under its name: status 121' meets_running
+    check 'and the line of cp says why' grep -q 'Text file busy' "$work/errors"
+    check 'a copy that is being written: status 126 of the shell' \
+        ends 126 bash -c 'exec 3<>"$TMPDIR/ape.$$" && exec sh "$@"' sh "$file"
+    check 'a copy over which the whole file was written: status 121' replaced 121 'cp "$linked" "$1"'
+    check 'a copy that was removed: status 127 of the shell' replaced 127 'rm "$1"'
+    check 'a copy over which another program was written: that one starts' replaced 5 'cp "$other" "$1"'
+    if unshare -p -f true 2>"$work/said"; then
+        check 'where processes are counted anew, as in a container, the first copy is ape.1' is_first
+    else
+        skip 'a copy of the process 1' 'it takes root and unshare'
+    fi
+}
+
+is_first() {
+    run unshare -p -f sh "$file" one
+    [ "$status" = 1 ] && [ -s "$work/printed" ] && [ "$(ls "$work/tmp")" = ape.1 ]
+}
+
+meets_running() {
+    local met
+    ends 121 bash -c 'cp "$(type -P sleep)" "$TMPDIR/ape.$$"
+        "$TMPDIR/ape.$$" 60 &
+        echo "$!" >"$TMPDIR/running"
+        for ((i = 0; i < 100; i++)); do
+            [ "$(readlink "/proc/$!/exe")" != "$TMPDIR/ape.$$" ] || break
+            sleep 0.1
+        done
+        exec sh "$@"' sh "$file"
+    met=$?
+    kill "$(cat "$work/tmp/running")"
+    return "$met"
+}
+
+# How a start ends where something is done to its copy just before it becomes it. bash takes the script's exec to be a function.
+replaced() { # STATUS COMMAND
+    elf_headers 12 >"$work/other"
+    printf '\x6a\x3c\x58\x6a\x05\x5f\x0f\x05\x90\x90\x90\x90' >>"$work/other" # exit(5)
+    printf 'exec() { %s; command exec "$@"; }\n' "$2" >"$work/replace"
+    ends "$1" env BASH_ENV="$work/replace" linked="$file" other="$work/other" bash "$file"
 }
 
 follows_link() {
@@ -418,22 +546,47 @@ run_twelve() {
     [ "$(find "$work/tmp" -type f | wc -l)" = 12 ]
 }
 
-# A program that waits for a line, looked at by the number of the process that was sh.
-names_copy() {
-    local i name exe
-    rm -rf "$work/tmp" && mkdir "$work/tmp" && mkfifo "$work/held"
+# Starts the file so that its program waits for a line. The process that was sh is the program then, by the number $held.
+hold() {
+    local i
+    rm -rf "$work/tmp" "$work/held" && mkdir "$work/tmp" && mkfifo "$work/held"
     TMPDIR=$work/tmp sh "$file" one <"$work/held" >"$work/printed" &
+    held=$!
     exec 3>"$work/held"
     for ((i = 0; i < 100; i++)); do
-        exe=$(readlink "/proc/$!/exe")
-        [ "$exe" != "$work/tmp/ape.$!" ] || break
+        [ "$(readlink "/proc/$held/exe")" != "$work/tmp/ape.$held" ] || return 0
         sleep 0.1
     done
-    name=$(tr '\0' '\n' <"/proc/$!/cmdline" | head -n 1)
-    rm -f "$work/tmp"/ape.*
+    return 1
+}
+
+# Lets it end, and says whether it did so as it should.
+release() {
     exec 3>&-
-    wait $!
-    [ $? = 1 ] && [ "$exe" = "$work/tmp/ape.$!" ] && [ "$name" = "$exe" ]
+    wait "$held"
+    [ $? = 1 ]
+}
+
+names_copy() {
+    local name
+    hold
+    name=$(tr '\0' '\n' <"/proc/$held/cmdline" | head -n 1)
+    rm -f "$work/tmp"/ape.*
+    release && [ "$name" = "$work/tmp/ape.$held" ]
+}
+
+# A program of getopt, which prints a name in front of its messages.
+getopt_names_copy() {
+    printf '#include <unistd.h>\nint main(int n, char **words) { return getopt(n, words, "a") == 63; }\n' >"$work/options.c"
+    gcc -static -o "$work/options.elf" "$work/options.c" "${stub[@]}" && link "$work/options" "$work/options.elf" || return
+    ends 1 sh "$work/options" -b
+    [ "$(cat "$work/errors")" = "$work/tmp/$copy: invalid option -- 'b'" ]
+}
+
+# busybox, which chooses what it is by its name.
+busybox_names_copy() {
+    ends 127 sh "$work/box" echo one
+    [ "$(cat "$work/errors")" = "$copy: applet not found" ]
 }
 
 runs_read_only() {
@@ -442,6 +595,42 @@ runs_read_only() {
     local ran=$?
     chmod 755 "$work/closed"
     return "$ran"
+}
+
+# What strace and gdb make of the file and of the program that it holds.
+check_debuggers() {
+    [ -n "${reads-}" ] || { skip 'strace and gdb' 'the example is the one without a library' && return; }
+    if is_there strace && strace -o "$work/trace" true 2>"$work/said"; then
+        check 'strace runs the ELF program' runs strace -o "$work/trace" "$program"
+        check 'strace does not start the file' refused_by 'Exec format error' strace -o "$work/trace" "$file"
+        check 'strace -f sh FILE runs it' runs strace -f -o "$work/trace" sh "$file"
+        check 'and shows that it becomes the copy' grep -q "execve(\"$work/tmp/ape\.[0-9]*\"" "$work/trace"
+    else
+        skip 'strace' 'it is missing, or may not trace here'
+    fi
+    if is_there gdb && gdb -q -batch -ex run "$(type -P true)" 2>&1 | grep -q 'exited normally'; then
+        check 'gdb stops in the ELF program, and runs it' stops_in_main
+        check 'gdb does not take the file' refused_by 'file format not recognized' gdb -q -batch -ex run "$file"
+        check 'gdb with the ELF program and the process number of the started file shows where it is' shows_held
+    else
+        skip 'gdb' 'it is missing, or may not trace here'
+    fi
+}
+
+refused_by() { # TEXT COMMAND..
+    run "${@:2}"
+    [ "$status" != 0 ] && [ ! -s "$work/printed" ] && grep -q "$1" "$work/errors"
+}
+
+stops_in_main() {
+    run gdb -q -batch -ex 'break main' -ex run -ex continue --args "$program" one
+    grep -q '^Breakpoint 1, .* in main ()' "$work/printed" && grep -q '^100 <one>$' "$work/printed"
+}
+
+shows_held() {
+    hold
+    gdb -q -batch -ex bt "$program" "$held" </dev/null >"$work/shown" 2>&1
+    release && grep -q '^#[0-9]* .* in main ()' "$work/shown"
 }
 
 # What the linked file is to other tools, and to the choice of systems.
@@ -474,7 +663,7 @@ mkdir -p "$work/t m'p"
 tell_versions libc6-dev musl-dev gcc g++ gfortran gnat fpc clang lld mold binutils golang-go \
     gcc-aarch64-linux-gnu libc6-dev-arm64-cross qemu-user-static
 if is_there rustc; then echo "with: $(rustc --version)"; fi
-tell_versions dash bash zsh mksh busybox busybox-static ksh93u+m yash coreutils findutils make perl python3
+tell_versions dash bash zsh mksh busybox busybox-static ksh93u+m yash coreutils findutils make perl python3 strace gdb
 check_languages
 check_user_mode
 check_stub
@@ -486,5 +675,6 @@ check_starters
 check_tools
 check_statuses
 check_copies
+check_debuggers
 check_files
 finish

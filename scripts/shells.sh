@@ -58,6 +58,8 @@ check_systems() { # SHELL..
     done
     check "$*: for all systems, the status is 125 on macOS on AArch64" \
         ends 125 env PATH="$work/macos:$PATH" "$@" "$work/every" "${words[@]}"
+    check "$*: for all systems, the status is 123 on macOS where dd fails" \
+        ends 123 env PATH="$work/no-dd:$work/Darwin:$PATH" "$@" "$work/every" "${words[@]}"
     check "$*: for all systems, the status is 126 on another system" \
         ends 126 env PATH="$work/other:$PATH" "$@" "$work/every" "${words[@]}"
 }
@@ -75,6 +77,7 @@ fake "$work/FreeBSD" uname '[ "$1" = -m ] && echo amd64 || echo FreeBSD'
 fake "$work/NetBSD" uname '[ "$1" = -m ] && echo x86_64 || echo NetBSD'
 fake "$work/macos" uname '[ "$1" = -m ] && echo arm64 || echo Darwin'
 fake "$work/other" uname '[ "$1" = -m ] && echo x86_64 || echo OpenBSD'
+fake "$work/no-dd" dd 'exit 1'
 fake "$work/Darwin" uname '[ "$1" = -m ] && echo x86_64 || echo Darwin'
 
 check 'the example is built' "$root/examples/build.sh" hello x86-64 "$work/hello.elf"

@@ -109,14 +109,8 @@ finds_imports() { # FILE
     [ -s "$work/wanted" ] && "$python" "$root/scripts/windows.py" imports "$1" | cmp - "$work/wanted"
 }
 
-# Whether `map` has the option that prints imports. It takes it for a fault of usage where it hasn't.
-begin_imports() {
-    "$apetool" map --as pe --imports "$file" >"$work/told" 2>"$work/said"
-    if [ $? = 2 ]; then imports=none && skip 'imports by map' "map --as pe --imports isn't built"; else imports=printed; fi
-}
-
 check_imports() { # WHAT FILE..
-    if [ -z "$python" ] || [ "$imports" = none ]; then return; fi
+    [ -n "$python" ] || return
     check "$1: map --as pe --imports prints the imports that pefile finds" imports_alike "${@:2}"
 }
 
@@ -196,7 +190,6 @@ check_linked() { # WHAT FILE
 
 check_example() {
     check 'the example is linked' link_for linux,windows "$file" "$program"
-    begin_imports
     check_linked 'the example' "$file"
     check 'the choice of Windows changes nothing behind the block' same_behind_block
     check 'the example is linked for Windows alone' link_for windows "$work/alone" "$program"

@@ -10,6 +10,8 @@ use Rattle.std.proofs.lemmas.Slice.Eq.{bytes_eq-Decides}
 use Rattle.std.proofs.Math.Seq.{take-append_seam}
 use Rattle.ap_elf.specs.declared.types.Tables.{Tables}
 use Rattle.ap_elf.specs.Symbols.{stands_at, with_nul, is_named, value_of, strings_of, symbols_from, Stands}
+use Rattle.ap_elf.specs.Begun.{NoneBegins}
+use Rattle.ap_elf.proofs.Beginnings.{value-begun-not}
 use Rattle.ap_check.specs.Inputs.{no_symbols, symbols_at}
 
 -- the beginning of a text stands where the text does
@@ -49,6 +51,15 @@ pub not-true : (b : Bool) → b ≡ false → IsTrue b → ⊥
 not-true true e h = absurd (cc)
 not-true false e h = absurd (cc)
 
+-- nor where no symbol's name begins so
+pub value-begun : (b : List ℕ) (t : Tables) (p q : List ℕ) → NoneBegins (strings_of b t) p (symbols_from b t.at t.count) → value_of b t (p ++ q) ≡ None
+unfolding value_of
+value-begun b t p q none =
+    let strings = strings_of b t in
+    value-begun-not strings p (p ++ q)
+    (λ at stands. stands-prefix strings p (q ++ 0 ∷ []) at (ap (λ x. stands_at strings x at) (sym (append_assoc p q (0 ∷ []))) ∙ stands))
+    (symbols_from b t.at t.count) none
+
 -- none of the seven names
 pub no-symbols-at : (b : List ℕ) (t : Tables) → (Stands (strings_of b t) (codes "ape_") → ⊥) → no_symbols ≡ symbols_at b t
 unfolding symbols_at
@@ -60,4 +71,16 @@ no-symbols-at b t never i = record {
   idata_end = (sym (value-none b t (codes "ape_") (codes "idata_end") never)) i;
   iat = (sym (value-none b t (codes "ape_") (codes "iat") never)) i;
   iat_end = (sym (value-none b t (codes "ape_") (codes "iat_end") never)) i;
+}
+
+pub no-symbols-begun : (b : List ℕ) (t : Tables) → NoneBegins (strings_of b t) (codes "ape_") (symbols_from b t.at t.count) → no_symbols ≡ symbols_at b t
+unfolding symbols_at
+no-symbols-begun b t none i = record {
+  pe_entry = (sym (value-begun b t (codes "ape_") (codes "pe_entry") none)) i;
+  mach_entry = (sym (value-begun b t (codes "ape_") (codes "mach_entry") none)) i;
+  image_base = (sym (value-begun b t (codes "ape_") (codes "image_base") none)) i;
+  idata = (sym (value-begun b t (codes "ape_") (codes "idata") none)) i;
+  idata_end = (sym (value-begun b t (codes "ape_") (codes "idata_end") none)) i;
+  iat = (sym (value-begun b t (codes "ape_") (codes "iat") none)) i;
+  iat_end = (sym (value-begun b t (codes "ape_") (codes "iat_end") none)) i;
 }

@@ -1,5 +1,5 @@
 -- What stands where the rules of the systems that were chosen hold.
-use Rattle.std.proofs.Common.{◌≡◌, ℕ, true, cond, List, [], Option, Some, None, sym, ap, ◌∙◌}
+use Rattle.std.proofs.Common.{◌≡◌, ℕ, cond, List, [], Option, Some, None, sym, ap, ◌∙◌}
 use Rattle.std.specs.Prelude.{IfSome}
 use Rattle.ap_fields.specs.FirstFault.{first_fault}
 use Rattle.ap_fields.proofs.FirstFaults.{append-none}

@@ -6,7 +6,10 @@ pub mod SymbolReads
 pub mod Searches
 pub mod Comparing
 pub mod Sightings
+pub mod Markings
 pub mod Values
+pub mod Naming
+pub mod Beginnings
 pub mod ReadBack
 pub mod Filling
 pub mod Machines

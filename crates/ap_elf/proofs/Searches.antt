@@ -35,7 +35,7 @@ module _ (strings text : List ℕ) (at count : ℕ) (inside : at + count ≤ len
         reads = λ j l. ap (slice_index strings) (let e : at + i + j ≡ at + (i + j) = omega arith in e) ∙ sym (piece-at (i + j) (omega arith)) ∙ o.reads j l;
       }
 
-  occurs-piece : (k : ℕ) → at ≤ k → k + length text ≤ at + count → OccursAt strings text k → OccursAt (take count (drop at strings)) text (k - at)
+  pub occurs-piece : (k : ℕ) → at ≤ k → k + length text ≤ at + count → OccursAt strings text k → OccursAt (take count (drop at strings)) text (k - at)
   occurs-piece k low high o =
       let long = length-piece in
       record {

@@ -25,6 +25,10 @@ pub value-next : (strings name : List ℕ) (s : Symbol) (rest xs : List Symbol) 
 value-next strings name s rest xs whole is split other =
     is ∙ ap (value_among strings name) split ∙ other-symbol (is_named strings name s) s (find (is_named strings name) rest) other
 
+-- a symbol that hasn't the name
+pub value-skipped : (strings name : List ℕ) (s : Symbol) (symbols : List Symbol) → is_named strings name s ≡ false → value_among strings name (s ∷ symbols) ≡ value_among strings name symbols
+value-skipped strings name s symbols other = other-symbol (is_named strings name s) s (find (is_named strings name) symbols) other
+
 -- symbols in two parts
 pub value_among-append : (strings name : List ℕ) (xs ys : List Symbol)
     → (value_among strings name xs ≡ None → value_among strings name (xs ++ ys) ≡ value_among strings name ys)
@@ -42,7 +46,7 @@ value_among-append strings name (s ∷ xs) ys = by (is_named strings name s) (va
     by true rest = (λ e. absurd (cc), λ v e. e)
     by false rest = rest
 
-symbols_from-append : (b : List ℕ) (at m n : ℕ) → symbols_from b at (m + n) ≡ symbols_from b at m ++ symbols_from b (at + 24 * m) n
+pub symbols_from-append : (b : List ℕ) (at m n : ℕ) → symbols_from b at (m + n) ≡ symbols_from b at m ++ symbols_from b (at + 24 * m) n
 symbols_from-append b at zero n = ap (λ k. symbols_from b at k) (let e : 0 + n ≡ n = omega arith in e) ∙ ap (λ k. symbols_from b k n) (let e : at ≡ at + 24 * 0 = omega arith in e)
 symbols_from-append b at (suc m) n =
     ap (λ k. symbols_from b at k) (let e : suc m + n ≡ suc (m + n) = omega arith in e)

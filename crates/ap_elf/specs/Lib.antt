@@ -5,3 +5,4 @@ pub mod ElfReading
 pub mod Written
 pub mod Symbols
 pub mod Seen
+pub mod Begun

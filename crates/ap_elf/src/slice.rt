@@ -42,7 +42,7 @@ pub fn symbol(b: &[u8], h: &Header, name: &[u8]) -> Option<u64>
         return None;
     };
     let mut files = SliceFiles { bytes: b };
-    match symbol_in(&mut files, "", &t, name) {
+    match symbol_in(&mut files, "", &t, name, &[]) {
         Ok(value) => value,
         Err(_) => unreachable!(),
     }

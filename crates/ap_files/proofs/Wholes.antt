@@ -1,24 +1,24 @@
--- What follows from the read of a whole file.
-use Rattle.std.proofs.Common.{◌≡◌, ℕ, List, ◌++◌, length, take, drop, Ok, Err, ap, ◌∙◌, arith}
-use Rattle.std.proofs.lemmas.List.{take_all, take_at}
-use Rattle.ap_files.specs.Files.{FileState, ReadsAt}
-use Rattle.ap_files.specs.Reads.{HasFile, HasSize, ReadFails}
-use Rattle.ap_files.specs.declared.failure.Failed.{Failed}
+-- What follows from the reads of a whole file.
+use lib.Seq.{take-add}
+use Rattle.std.proofs.Common.{◌≡◌, ℕ, ◌+◌, ◌≤◌, List, ◌++◌, length, take, drop, Ok, sym, ap, ◌∙◌, arith}
+use Rattle.std.proofs.lemmas.List.{take_all}
+use Rattle.ap_files.specs.Files.{FileState, ForFile, ReadsAt}
+use Rattle.ap_files.specs.Reads.{HasFile, HasSize}
 use Rattle.ap_files.proofs.ReadLemmas.{same_state}
 
--- the whole of it was read
-pub whole-read : (old new : FileState) (name buf rest : List ℕ) (n count : ℕ) (before after : List ℕ) → HasSize old.kept name n → ReadsAt old new name 0 before after (Ok tt)
-    → length before ≡ count → count ≡ n → buf ≡ take count (after ++ rest) → length after ≡ count
-    → (new ≡ old) × HasFile old.kept name (λ b. buf ≡ b)
-whole-read old new name buf rest n count before after sized read long same is full = (
-  same_state old new read.files read.ok,
-  λ m k.
-      let t = sized m k in
-      let told = read.bytes m t.0 k t.1 in
-      let all : after ≡ t.0 = told ∙ ap (λ i. take i (drop 0 t.0)) long ∙ take_all count t.0 (let l = t.2 in omega arith) in
-      (t.0, t.1, is ∙ take_at after rest count full ∙ all),
-)
+-- a piece was read behind its first bytes
+pub more-read : (old now new : FileState) (name items before after : List ℕ) (done count : ℕ) → now ≡ old → length before ≡ count → ReadsAt now new name done before after (Ok tt)
+    → ForFile old.kept name (λ b. items ≡ take done b) → ForFile old.kept name (λ b. items ++ after ≡ take (done + count) b)
+more-read old now new name items before after done count still long read so m b told at =
+    let piece : after ≡ take count (drop done b) = read.bytes m b (ap (λ (s : FileState). s.kept) still ∙ told) at ∙ ap (λ n. take n (drop done b)) long in
+    ap (λ xs. xs ++ after) (so m b told at) ∙ ap (λ ys. take done b ++ ys) piece ∙ sym (take-add done count b)
 
--- a read that fails
-pub whole-unread : (old new : FileState) (name before after : List ℕ) (e : Failed) → ReadsAt old new name 0 before after (Err e) → ReadFails old new
-whole-unread old new name before after e read = record { files = read.files; rose = read.failed; write_faults = read.write_faults; absences = read.absences }
+-- a read leaves the state
+pub still-read : (old now new : FileState) (name before after : List ℕ) (at : ℕ) → now ≡ old → ReadsAt now new name at before after (Ok tt) → new ≡ old
+still-read old now new name before after at still read = same_state now new read.files read.ok ∙ still
+
+-- all bytes of it were read
+pub whole-read : (old : FileState) (name items : List ℕ) (size done : ℕ) → HasSize old.kept name size → size ≤ done → ForFile old.kept name (λ b. items ≡ take done b) → HasFile old.kept name (λ b. items ≡ b)
+whole-read old name items size done sized past so m told =
+    let t = sized m told in
+    (t.0, t.1, so m t.0 told t.1 ∙ take_all done t.0 (let l = t.2 in omega arith))

@@ -1,8 +1,9 @@
 // The machine's files, read and written by names: the trusted edge, of which no clause says what is read or written.
 ghost use Rattle.std.specs.Prelude.{◌≤◌, ◌<◌, length, IfOk};
 
+use crate::taken::write_some;
 use std::fs::{File, OpenOptions};
-use std::io::{ErrorKind, Write};
+use std::io::ErrorKind;
 use std::os::unix::fs::{FileExt, PermissionsExt};
 use std::path::PathBuf;
 use std::rt::Files;
@@ -187,13 +188,14 @@ fn followed<R: Files + AllocGlobal>(machine: &R, name: &str) -> io::Result<Strin
     Err(io::Error::from(ErrorKind::FilesystemLoop))
 }
 
-/// A new file beside a path, named by it and by the least number that is free.
+/// A new file beside a path, whose name is short, so that it is taken beside the longest: by the least number
+/// that is free.
 fn create_beside<R: Files<File = File> + AllocGlobal>(
     machine: &R,
     target: String,
 ) -> io::Result<(File, Place)> {
     for number in 0..u32::MAX {
-        let path = format!(in machine.alloc(); "{target}.{number}")?;
+        let path = beside(machine, target.as_str(), number)?;
         match File::create_new(machine, path.as_str()) {
             Ok(file) => return Ok((file, Place::New { path, target })),
             Err(error) if error.kind() == ErrorKind::AlreadyExists => {}
@@ -203,15 +205,13 @@ fn create_beside<R: Files<File = File> + AllocGlobal>(
     Err(io::Error::from(ErrorKind::AlreadyExists))
 }
 
-/// One write, which takes at least a byte where there is one.
-fn write_some(file: &mut File, piece: &[u8]) -> io::Result<usize>
-    ensures { IfOk result (λ n. (n ≤ length piece.now) × (0 < length piece.now → 0 < n)) }
-{
-    let count = file.write(piece)?;
-    if count == 0 && !piece.is_empty() {
-        return Err(io::Error::from(ErrorKind::WriteZero));
-    }
-    Ok(count)
+/// The path of this number in the folder of another.
+fn beside<R: AllocGlobal>(machine: &R, target: &str, number: u32) -> io::Result<String> {
+    let name = format!(in machine.alloc(); ".ape{number}")?;
+    let mut path = PathBuf::from_str(machine.alloc(), target)?;
+    path.pop();
+    path.push(name.as_str())?;
+    Ok(path.into_string())
 }
 
 fn publish<R: Files>(machine: &R, written: &WrittenFile) -> io::Result<()> {

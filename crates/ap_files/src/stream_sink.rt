@@ -3,8 +3,9 @@ ghost use Rattle.std.specs.Prelude.{◌≡◌};
 ghost use Rattle.ap_files.specs.Machine.{untold_stream};
 
 use crate::failure::count_failure;
+use crate::taken::write_some;
 use crate::{Failed, Sink};
-use std::io::{Print, Stderr, Stdout};
+use std::io::{Stderr, Stdout, Write};
 use std::marker::Model;
 
 /// A stream of the machine, of which nothing is told.
@@ -31,7 +32,7 @@ impl<P> Model for StreamSink<P> {
     ghost view = { λ s. s.faults };
 }
 
-impl<P: Print> StreamSink<P> {
+impl<P: Write> StreamSink<P> {
     /// Writes to this stream.
     pub fn new(stream: P) -> StreamSink<P>
         ensures { result ≡ 0 }
@@ -40,14 +41,13 @@ impl<P: Print> StreamSink<P> {
     }
 }
 
-impl<P: Print> Sink for StreamSink<P> {
+impl<P: Write> Sink for StreamSink<P> {
     ghost state = { untold_stream };
 
     fn write(&mut self, piece: &[u8]) -> Result<usize, Failed> {
-        match self.stream.write_some(piece) {
-            Ok(count) if count > 0 => Ok(count),
-            Ok(_) if piece.is_empty() => Ok(0),
-            _ => Err(count_failure(&mut self.faults)),
+        match write_some(&mut self.stream, piece) {
+            Ok(count) => Ok(count),
+            Err(_) => Err(count_failure(&mut self.faults)),
         }
     }
 }

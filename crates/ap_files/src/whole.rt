@@ -8,6 +8,9 @@ use crate::files::Files;
 use crate::piece::append;
 use std::alloc::Global;
 
+/// How many bytes are read at once. A read straight into the new memory would want it filled first, which takes longer.
+const PIECE: usize = 1 << 16;
+
 /// Why the bytes of a file aren't answered.
 #[derive(Clone, Copy, Debug, PartialEq, Eq)]
 pub enum ReadAllFault {
@@ -28,14 +31,23 @@ pub fn read_all<F: Files>(
     ensures bytes { ReadsAll (F.state files.old) (F.state files.new) name.now result }
     ensures length { IfOk result (λ bytes. length bytes.items ≡ size) }
 {
-    let mut bytes = Vec::new(alloc);
-    if bytes.resize(size, 0).is_err() {
+    let Ok(mut bytes) = Vec::with_capacity(alloc, size) else {
         return Err(ReadAllFault::NoMemory);
+    };
+    let mut buffer = [0; PIECE];
+    let mut done = 0;
+    while done < size {
+        let count = (size - done).min(PIECE);
+        let part = &mut buffer[..count];
+        if let Err(_) = files.read_at(name, done as u64, part) {
+            return Err(ReadAllFault::Read);
+        }
+        if let Err(_) = bytes.extend_from_slice(part) {
+            return Err(ReadAllFault::NoMemory);
+        }
+        done += count;
     }
-    match files.read_at(name, 0, &mut bytes) {
-        Ok(()) => Ok(bytes),
-        Err(_) => Err(ReadAllFault::Read),
-    }
+    Ok(bytes)
 }
 
 /// Makes a file of these bytes.

@@ -10,5 +10,7 @@ pub mod RegionCells
 pub mod Totals
 pub mod Alike
 pub mod RunLemmas
+pub mod PieceLemmas
+pub mod ImageWriting
 pub mod RunBytes
 pub mod ImportReads

@@ -33,12 +33,13 @@ shown_byte byte regions a = byte_of (cell_in byte regions a)
 abbrev pub run_bytes : (ℕ → ℕ) → List Region → Run → List ℕ
 run_bytes byte regions run = listed (shown_byte byte regions) run.start run.length
 
+-- what stands before the bytes
+unfoldable pub front_of : Mapping → List ℕ
+front_of m = image_head m.entry (length (runs_of m.regions)) ++ flat_map run_line (runs_of m.regions)
+
 -- the image file
 unfoldable pub image_file : (ℕ → ℕ) → Mapping → List ℕ
-image_file byte m =
-    image_head m.entry (length (runs_of m.regions))
-    ++ (flat_map run_line (runs_of m.regions)
-    ++ flat_map (run_bytes byte m.regions) (runs_of m.regions))
+image_file byte m = front_of m ++ flat_map (run_bytes byte m.regions) (runs_of m.regions)
 
 -- the bytes at the addresses of a region
 abbrev pub region_bytes : (ℕ → ℕ) → Region → List ℕ

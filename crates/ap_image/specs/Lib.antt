@@ -1,6 +1,7 @@
 pub mod Plans
 pub mod Runs
 pub mod ImageFiles
+pub mod Images
 pub mod Reading
 pub mod Cells
 pub mod ImportWalk

@@ -33,6 +33,11 @@ AreBacked (r ∷ regions) len = (r.at + r.backed ≤ len) × AreBacked regions l
 abbrev pub has_address : Region → ℕ → Bool
 has_address r a = nat_le r.start a && nat_lt a (end_of r)
 
+-- the region that has an address
+abbrev pub region_at : List Region → ℕ → Option Region
+region_at [] a = None
+region_at (r ∷ regions) a = if has_address r a then Some r else region_at regions a
+
 -- the byte at an address of a region: the file's in its first part, 0 behind it
 abbrev pub region_byte : (ℕ → ℕ) → Region → ℕ → ℕ
 region_byte byte r a = if nat_lt (a - r.start) r.backed then byte (r.at + (a - r.start)) else 0
@@ -46,3 +51,8 @@ cell_in byte (r ∷ regions) a = if has_address r a then Some (region_byte byte 
 abbrev pub cell_of : Option (ℕ × Perms) → Option Cell
 cell_of None = None
 cell_of (Some (byte, perms)) = Some (byte, perms.0)
+
+-- a plan over a file in memory
+pub record Imaged : Type 0 where
+  pub plan : Mapping
+  pub file : List ℕ

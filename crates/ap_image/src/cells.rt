@@ -2,7 +2,7 @@
 ghost use Rattle.std.specs.Prelude.{◌≡◌, ◌≤◌, ◌<◌, ◌+◌, ◌-◌, ◌∷◌, ◌^◌, ℕ, List, length, drop, nat_le, IfSome};
 ghost use Rattle.std.specs.Option.{option_map};
 ghost use Rattle.ap_fields.specs.Readings.{bytes_in};
-ghost use Rattle.ap_image.specs.Plans.{AreAscendingFrom, AreBacked, end_of, region_byte, cell_in, cell_of};
+ghost use Rattle.ap_image.specs.Plans.{AreAscendingFrom, AreBacked, end_of, region_byte, region_at, cell_in, cell_of};
 ghost use Rattle.ap_image.specs.declared.plan.Region.{Region};
 ghost use Rattle.ap_image.specs.PlanCells.{shown_by, byte_by, LiesIn};
 
@@ -61,13 +61,14 @@ fn part(r: &Region, a: u64) -> Shown
     }
 }
 
-// How many regions end at or before an address.
+/// How many regions end at or before an address.
 #[tactic(auto, using(crate::proofs::RegionCells::cell_steps))]
-fn ended(regions: &[Region], a: u64) -> usize
+pub(crate) fn ended(regions: &[Region], a: u64) -> usize
     requires { AreAscendingFrom 0 regions.now }
     ensures few { result ≤ length regions.now }
     ensures before { (byte : ℕ → ℕ) → cell_in byte (drop result regions.now) a ≡ cell_in byte
         regions.now a }
+    ensures region { region_at (drop result regions.now) a ≡ region_at regions.now a }
     ensures behind { (r : Region) (rest : List Region) → drop result regions.now ≡ r ∷ rest → a <
         end_of r }
 {

@@ -2,13 +2,12 @@
 ghost use Rattle.std.specs.Prelude.{◌≡◌, ◌≤◌, ◌<◌, ◌+◌, ◌-◌, ◌++◌, ◌^◌, length, flat_map, Ok, Err, OnOk, IfOk, IfErr};
 ghost use Rattle.ap_fields.specs.Readings.{bytes_in};
 ghost use Rattle.ap_fields.specs.Bytes.{zeros};
-ghost use Rattle.ap_fields.specs.Fields.{bytes_of};
 ghost use Rattle.ap_image.specs.Plans.{AreAscendingFrom, AreBacked, IsRegion};
-ghost use Rattle.ap_image.specs.ImageFiles.{total_of, run_line, image_head, region_bytes, image_file};
+ghost use Rattle.ap_image.specs.ImageFiles.{total_of, region_bytes, image_file};
 
+use crate::front::front_bytes;
+use crate::piece::whole_piece;
 use crate::plan::{Plan, Region};
-use crate::run::{Run, joined};
-use bitflags::Flags;
 use std::alloc::{AllocError, Global};
 
 /// Why there is no image file of a plan.
@@ -62,66 +61,14 @@ fn total(regions: &[Region]) -> u64
     total
 }
 
-#[tactic(auto, using(std::proofs::Common::append_assoc, crate::proofs::RunLemmas::run_bounds, crate::proofs::RunBytes::byte_steps), unfolding(crate::specs::ImageFiles::image_file))]
+#[tactic(auto, using(std::proofs::Common::append_assoc, crate::proofs::RunBytes::byte_steps), unfolding(crate::specs::ImageFiles::image_file))]
 fn written(alloc: Global, plan: &Plan, file: &[u8]) -> Result<Vec<u8>, AllocError>
     requires { AreBacked plan.now.regions (length file.now) }
     ensures { IfOk result (λ image. image.items ≡ image_file (bytes_in file.now) plan.now) }
 {
-    let regions = plan.regions.as_slice();
-    let runs = joined(alloc, regions)?;
-    let mut out = Vec::new(alloc);
-    push_table(&mut out, plan.entry, &runs)?;
-    push_regions(&mut out, regions, file)?;
+    let mut out = front_bytes(alloc, plan)?;
+    push_regions(&mut out, plan.regions.as_slice(), file)?;
     Ok(out)
-}
-
-// Appends the head and a line for each run.
-#[tactic(auto, using(std::proofs::Common::append_assoc))]
-fn push_table(out: &mut Vec<u8>, entry: u64, runs: &[Run]) -> Result<(), AllocError>
-    requires { length runs.now < 2 ^ 32 }
-    ensures { OnOk result
-        (out.new.items ≡ out.old.items ++
-        (image_head entry (length runs.now) ++ flat_map run_line runs.now)) }
-{
-    push_head(out, entry, runs.len() as u32)?;
-    for run in runs {
-        push_line(out, run)?;
-    }
-    Ok(())
-}
-
-#[tactic(auto, using(std::proofs::Common::append_assoc), unfolding(crate::specs::ImageFiles::image_head))]
-fn push_head(out: &mut Vec<u8>, entry: u64, count: u32) -> Result<(), AllocError>
-    ensures { OnOk result (out.new.items ≡ out.old.items ++ image_head entry count) }
-{
-    out.extend_from_slice(b"APEIMAGE")?;
-    push64(out, entry)?;
-    push32(out, count)?;
-    push32(out, 0)
-}
-
-#[tactic(auto, using(std::proofs::Common::append_assoc), unfolding(crate::specs::ImageFiles::run_line))]
-fn push_line(out: &mut Vec<u8>, run: &Run) -> Result<(), AllocError>
-    ensures { OnOk result (out.new.items ≡ out.old.items ++ run_line run.now) }
-{
-    push64(out, run.start)?;
-    push64(out, run.length)?;
-    push32(out, run.perms.bits() as u32)?;
-    push32(out, 0)
-}
-
-#[tactic(auto, unfolding(ap_fields::specs::Fields::bytes_of))]
-fn push32(out: &mut Vec<u8>, v: u32) -> Result<(), AllocError>
-    ensures { OnOk result (out.new.items ≡ out.old.items ++ bytes_of 4 v) }
-{
-    out.extend_from_slice(&v.to_le_bytes())
-}
-
-#[tactic(auto, unfolding(ap_fields::specs::Fields::bytes_of))]
-fn push64(out: &mut Vec<u8>, v: u64) -> Result<(), AllocError>
-    ensures { OnOk result (out.new.items ≡ out.old.items ++ bytes_of 8 v) }
-{
-    out.extend_from_slice(&v.to_le_bytes())
 }
 
 // Appends the bytes of regions.
@@ -137,18 +84,17 @@ fn push_regions(out: &mut Vec<u8>, regions: &[Region], file: &[u8]) -> Result<()
     Ok(())
 }
 
-// Appends the part of the file that a region shows, and the zeros behind it.
-#[tactic(auto, using(std::proofs::Common::append_assoc, crate::proofs::RegionBytes::part_steps))]
+// Appends the piece that is the whole of a region.
+#[tactic(auto, using(std::proofs::Common::append_assoc, crate::proofs::PieceLemmas::whole_steps))]
 fn push_region(out: &mut Vec<u8>, r: &Region, file: &[u8]) -> Result<(), AllocError>
     requires region { IsRegion r.now }
     requires backed { r.now.at + r.now.backed ≤ length file.now }
     ensures { OnOk result
         (out.new.items ≡ out.old.items ++ region_bytes (bytes_in file.now) r.now) }
 {
-    let from = r.at as usize;
-    let part = &file[from..from + r.backed as usize];
-    out.extend_from_slice(part)?;
-    push_zeros(out, (r.span - r.backed) as usize)
+    let piece = whole_piece(r, file);
+    out.extend_from_slice(piece.bytes)?;
+    push_zeros(out, piece.zeros as usize)
 }
 
 #[tactic(auto, unfolding(ap_fields::specs::Bytes::zeros))]

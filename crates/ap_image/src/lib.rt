@@ -6,7 +6,10 @@ mod plan; // plans and their regions
 mod reading; // readings of files
 mod cells; // what a plan has at an address
 mod run; // regions that touch, as one
-mod image_file; // the image file of a plan
+mod piece; // plans over files in memory, piece by piece
+mod front; // the image file of a plan, before the bytes
+mod image_file; // the whole of it, in memory
+mod image_write; // and written to a file
 mod by_address; // bytes by their addresses
 mod last_read; // the part of a file that was read last
 mod plan_cells; // those that a plan shows
@@ -23,11 +26,14 @@ pub use ap_fields::Perms;
 pub use by_address::Cells;
 pub use bytes::Bytes;
 pub use cells::cell;
+pub use front::image_front;
 pub use image_file::{DumpFault, address_count, dump};
+pub use image_write::write_image;
 pub use import_item::{Import, ImportEnd, Wanted};
 pub use import_list::list_imports;
 pub use import_step::{Ending, Step, WalkCause, WalkEnd, WalkFault, What};
 pub use last_read::LastRead;
+pub use piece::{Image, Piece};
 pub use plan::{MOST_REGIONS, Plan, Region};
 pub use plan_cells::{FileCells, PlanCells};
 pub use reading::{Reading, reads_alike};

@@ -1,6 +1,7 @@
 pub mod Rounded
 pub mod NewAreas
 pub mod Serving
+pub mod SharedAreas
 pub mod Walked
 pub mod HeaderLengths
 pub mod Fitting

@@ -45,12 +45,16 @@ content-bounds g p is =
     let small : p.vaddr % g < 16384 = grind arith in
     (low, omega arith)
 
+-- where a new area ends
+pub made-end : (g : ℕ) (p : Load) (c : ℕ) → IsGranule g → ceil_of c g + content_length g p ≤ c + p.filesz + MOST_BESIDE
+made-end g p c is = let h = ceil-below c g is in let k = content-bounds g p is in omega arith
+
 -- how far the cursor moves
 pub area-end : (g : ℕ) (p : Load) (c : ℕ) → IsGranule g → end_of (area_of None g p c) ≤ c + p.filesz + MOST_BESIDE
 area-end g p c is =
     elim (cases_Bool (eqb p.filesz 0)) [
       | inl z ↦ rw z (omega arith)
-      | inr some ↦ rw some (let h = ceil-below c g is in let k = content-bounds g p is in omega arith)
+      | inr some ↦ rw some (made-end g p c is)
     ]
 
-pub ruleset area_steps = (granule-positive, ceil-fits, granule_power, area-end)
+pub ruleset area_steps = (granule-positive, ceil-fits, granule_power, made-end, area-end)

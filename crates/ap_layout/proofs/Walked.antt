@@ -7,9 +7,6 @@ use Rattle.ap_layout.specs.declared.layout.Area.{Area}
 use Rattle.ap_layout.specs.declared.sizes.TheConstants.{MOST_BESIDE}
 use Rattle.ap_layout.specs.Areas.{areas_of, end_from}
 
-abbrev pub no_load : Load
-no_load = record { offset = 0; vaddr = 0; filesz = 0; memsz = 0; perms = record { 0 = 0 } }
-
 -- a bound on what loads need: their bytes, and three granules each
 abbrev pub room_of : List Load → ℕ
 room_of [] = 0

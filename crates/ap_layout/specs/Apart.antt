@@ -20,6 +20,6 @@ abbrev pub first_areas : List (List Area) → List Area
 first_areas [] = []
 first_areas (areas ∷ more) = areas
 
--- positions that fit have no areas that overlap
+-- any two areas of positions that fit are the same, or don't overlap
 abbrev pub FittingIsApart : Type 0
 FittingIsApart = (options : Options) (inputs : List Taken) (l : Positions) → Fits options inputs l → AllApart (all_areas (placed_inputs inputs l))

@@ -1,4 +1,5 @@
 pub mod Areas
+pub mod Twins
 pub mod Headers
 pub mod MachPlaces
 pub mod Positions

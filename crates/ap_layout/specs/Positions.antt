@@ -1,4 +1,5 @@
--- The positions of a linked file's parts, by its inputs, and what stands of them.
+-- The positions of a linked file's parts, by its inputs and by the masks that tell which of their loads have the same content, and
+-- what stands of them.
 use Rattle.std.specs.Prelude.{◌≡◌, ℕ, ◌+◌, ◌*◌, ◌<◌, ◌≤◌, List, [], ◌∷◌, ◌++◌, length, map, Option, Some, None}
 use Rattle.std.specs.List.{flat_map}
 use Rattle.ap_fields.specs.declared.sizes.TheConstants.{BLOCK, WINDOW}
@@ -14,6 +15,7 @@ use Rattle.ap_layout.specs.declared.sizes.TheConstants.{TABLES, MOST_BODY, MOST_
 use Rattle.ap_layout.specs.Headers.{pe_length}
 use Rattle.ap_layout.specs.MachPlaces.{mach_start, mach_length}
 use Rattle.ap_layout.specs.Areas.{areas_of, end_from, new_areas, ServeAll}
+use Rattle.ap_layout.specs.Twins.{sharing}
 
 -- where the areas of each input, the program header tables, the Mach-O header and the ends stand
 pub record Positions : Type 0 where
@@ -39,36 +41,52 @@ entry_count e = length e.loads + (one_if e.stack + (length e.notes + one_if e.tl
 abbrev pub table_length : Taken → ℕ
 table_length e = PHDR_SIZE * entry_count e
 
--- nothing is shared so far
+-- the first input shares no area
 abbrev pub no_sharing : ℕ → Option Area
 no_sharing i = None
 
--- the areas of an input from a cursor on
-abbrev pub input_areas : Taken → ℕ → List Area
-input_areas e c = areas_of no_sharing 0 (granule_of e.machine) e.loads c
+-- the second shares those of the first that its masks tell
+abbrev pub shared_with : List ℕ → List Area → Taken → ℕ → Option Area
+shared_with masks areas f = sharing masks areas (granule_of f.machine) f.loads
 
--- the areas of one or two inputs, those of the second behind those of the first; there are none without an input
-abbrev pub areas_in : Taken → Option Taken → List (List Area)
-areas_in e None = input_areas e BLOCK ∷ [] ∷ []
-areas_in e (Some f) = input_areas e BLOCK ∷ input_areas f (end_from BLOCK (input_areas e BLOCK)) ∷ []
+-- the areas of an input from a cursor on
+abbrev pub input_areas : (ℕ → Option Area) → Taken → ℕ → List Area
+input_areas shares e c = areas_of shares 0 (granule_of e.machine) e.loads c
+
+-- the areas of the first input stand behind the block
+abbrev pub areas_one : Taken → List Area
+areas_one e = input_areas no_sharing e BLOCK
+
+-- where they end
+abbrev pub end_one : Taken → ℕ
+end_one e = end_from BLOCK (areas_one e)
+
+-- those of the second that it doesn't share stand behind them
+abbrev pub areas_two : List ℕ → Taken → Taken → List Area
+areas_two masks e f = input_areas (shared_with masks (areas_one e) f) f (end_one e)
+
+-- the areas of one or two inputs
+abbrev pub areas_in : Taken → Option Taken → List ℕ → List (List Area)
+areas_in e None masks = areas_one e ∷ [] ∷ []
+areas_in e (Some f) masks = areas_one e ∷ areas_two masks e f ∷ []
 
 -- the positions of one or two inputs
-unfoldable pub positions_of : Options → Taken → Option Taken → Positions
-positions_of options e None = record {
-  areas = areas_in e None;
+unfoldable pub positions_of : Options → Taken → Option Taken → List ℕ → Positions
+positions_of options e None masks = record {
+  areas = areas_in e None masks;
   tables = tables_start options (e ∷ []) ∷ [];
   mach_at = mach_start options (e ∷ []);
   mach_len = mach_length options (e ∷ []);
   body_end = tables_start options (e ∷ []) + table_length e;
-  total = end_from BLOCK (input_areas e BLOCK);
+  total = end_one e;
 }
-positions_of options e (Some f) = record {
-  areas = areas_in e (Some f);
+positions_of options e (Some f) masks = record {
+  areas = areas_in e (Some f) masks;
   tables = tables_start options (e ∷ f ∷ []) ∷ (tables_start options (e ∷ f ∷ []) + table_length e) ∷ [];
   mach_at = mach_start options (e ∷ f ∷ []);
   mach_len = mach_length options (e ∷ f ∷ []);
   body_end = tables_start options (e ∷ f ∷ []) + table_length e + table_length f;
-  total = end_from (end_from BLOCK (input_areas e BLOCK)) (input_areas f (end_from BLOCK (input_areas e BLOCK)));
+  total = end_from (end_one e) (areas_two masks e f);
 }
 
 abbrev pub joined : List (List Area) → List Area

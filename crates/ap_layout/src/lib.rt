@@ -3,6 +3,8 @@
 
 mod position; // the positions of all parts
 mod areas; // the areas of one input
+mod twins; // which loads of two inputs have the same content
+mod shared; // the area of another input that serves a load
 mod headers; // how long the PE headers are
 mod mach; // where the Mach-O header stands
 mod tables; // the program header tables
@@ -24,3 +26,4 @@ pub use sizes::{
 };
 pub use stack::stack_size;
 pub use tables::entry_count;
+pub use twins::Twins;

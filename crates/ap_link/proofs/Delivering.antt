@@ -1,5 +1,5 @@
 -- How a link of inputs that were taken ends.
-use Rattle.std.proofs.Common.{◌≡◌, ◌≢◌, inl, inr, ℕ, Bool, true, false, cond, List, ◌++◌, length, IfSome, Option, Some, None, Ok, Err, refl, sym, ap, ◌∙◌, subst}
+use Rattle.std.proofs.Common.{◌≡◌, ◌≢◌, inl, inr, ℕ, Bool, true, false, cond, List, [], ◌∷◌, ◌++◌, length, IfSome, Option, Some, None, Ok, Err, refl, sym, ap, ◌∙◌, subst}
 use Rattle.ap_fields.specs.FirstFault.{Rules, first_fault}
 use Rattle.ap_files.specs.Files.{FileMap, FileState, ForFile, with_file, told_bytes}
 use Rattle.ap_files.specs.Reads.{HasFile, ReadFails}
@@ -17,15 +17,22 @@ use Rattle.ap_check.specs.declared.options.Options.{Options}
 use Rattle.ap_check.specs.Inputs.{Taken, input_of, inputs_of}
 use Rattle.ap_check.specs.Both.{x64_bytes, pair_rules, first_fault_of_both, IsTakenOf, AreTakenOf}
 use Rattle.ap_check.proofs.Pairs.{pair-says}
-use Rattle.ap_layout.specs.Positions.{Positions, positions_of}
+use Rattle.ap_fields.specs.Readings.{bytes_in as byte_in}
+use Rattle.ap_fields.specs.declared.sizes.TheConstants.{BLOCK}
+use Rattle.ap_layout.specs.declared.layout.Area.{Area}
+use Rattle.ap_layout.specs.Positions.{Positions, positions_of, areas_one, areas_in}
+use Rattle.ap_layout.specs.Twins.{masks_of}
+use Rattle.ap_layout.proofs.Fitting.{masks-none}
+use Rattle.ap_link.proofs.LaidAreas.{laid-are}
 use Rattle.ap_script.specs.Blocks.{block_of}
 use Rattle.ap_link.specs.declared.end.LinkEnd.{LinkEnd}
+use Rattle.ap_link.specs.declared.end.LinkEnd.TheVariants.{ReadFault}
 use Rattle.ap_link.specs.declared.source.Source.{Source}
-use Rattle.ap_link.specs.Linked.{block_for, tail_of}
+use Rattle.ap_link.specs.Linked.{input_text, text_one, text_two, block_for, tail_of}
 use Rattle.ap_link.specs.LinkedClaims.{linked_of}
 use Rattle.ap_link.specs.Answers.{IsLinked}
 use Rattle.ap_link.specs.FileAnswers.{HasInputs, AreRefused, AreUnread, HasLinkedPart, LinksFiles}
-use Rattle.ap_link.specs.Sources.{second_name, second_taken, second_bytes, second_told, tail_told, x64_name, AreReadable, IsSource, end_of_check, end_of_fault}
+use Rattle.ap_link.specs.Sources.{AreTrueFor, second_name, second_taken, second_told, tail_told, x64_name, AreReadable, IsSource, end_of_check, end_of_fault}
 use Rattle.ap_link.proofs.LinkedFiles.{both-linkable, file-linked, file-length, linked-is}
 
 -- ---- what is told of inputs
@@ -35,10 +42,10 @@ inputs-have P Q kept first None f h = λ m k. let t = h m k in (t.0, t.1, f t.0 
 inputs-have P Q kept first (Some n) f h = λ m k. let t = h m k in (t.0, t.1, λ m' k'. let u = t.2 m' k' in (u.0, u.1, f t.0 (Some u.0) u.2))
 
 -- the bytes of inputs that are there
-abbrev AreTold : Option FileMap → List ℕ → Option (List ℕ) → List ℕ → Option (List ℕ) → Type 0
+abbrev pub AreTold : Option FileMap → List ℕ → Option (List ℕ) → List ℕ → Option (List ℕ) → Type 0
 AreTold kept first second a b = (told_bytes kept first ≡ a) × (second_told kept second ≡ b)
 
-inputs-told : (P : List ℕ → Option (List ℕ) → Type 0) (kept : Option FileMap) (first : List ℕ) (second : Option (List ℕ)) → HasInputs kept first second P
+pub inputs-told : (P : List ℕ → Option (List ℕ) → Type 0) (kept : Option FileMap) (first : List ℕ) (second : Option (List ℕ)) → HasInputs kept first second P
     → HasInputs kept first second (λ a b. P a b × AreTold kept first second a b)
 inputs-told P kept first None h = λ m k. let t = h m k in (t.0, t.1, (t.2, (told_as kept first m t.0 k t.1, refl)))
 inputs-told P kept first (Some n) h = λ m k.
@@ -84,44 +91,86 @@ sources-readable kept first (Some s) out h k apart others = (record { size = h.s
 
 -- ---- inputs that meet all rules
 
--- what stands of the bytes of such inputs
-pub record IsReady (options : Options) (e : Taken) (second : Option Source) (a : List ℕ) (b : Option (List ℕ)) : Type 0 where
-  pub none : first_fault_of_both options a b ≡ None
-  pub bytes : block_for options e (second_taken second) ++ tail_of e a (second_bytes second b) ≡ linked_of options a b
-  pub linked : IsLinked options a b (linked_of options a b)
-  pub size : (positions_of options e (second_taken second)).total ≡ length (linked_of options a b)
+-- the second input with its bytes
+abbrev second_bytes : Option Source → Option (List ℕ) → Option (Taken × List ℕ)
+second_bytes None b = None
+second_bytes (Some s) None = None
+second_bytes (Some s) (Some b) = Some (s.input.now, b)
 
-one-ready : (options : Options) (e : Taken) (a : List ℕ) → IsTakenOf 1 a e → first_fault_of_both options a None ≡ None → IsReady options e None a None
-one-ready options e a is none =
+-- what stands of the bytes of such inputs
+pub record IsReady (options : Options) (e : Taken) (second : Option Source) (a : List ℕ) (b : Option (List ℕ)) (masks : List ℕ) : Type 0 where
+  pub none : first_fault_of_both options a b ≡ None
+  pub bytes : block_for options e (second_taken second) masks ++ tail_of masks e a (second_bytes second b) ≡ linked_of options a b
+  pub linked : IsLinked options a b (linked_of options a b)
+  pub size : (positions_of options e (second_taken second) masks).total ≡ length (linked_of options a b)
+
+-- masks that are true where there are two inputs
+abbrev pub AreTrue : List ℕ → Taken → List ℕ → Option Source → Option (List ℕ) → Type 0
+AreTrue masks e a None b = Unit {0}
+AreTrue masks e a (Some s) None = Unit {0}
+AreTrue masks e a (Some s) (Some b) = masks ≡ masks_of e (byte_in a) s.input.now (byte_in b)
+
+one-ready : (options : Options) (e : Taken) (a masks : List ℕ) → IsTakenOf 1 a e → first_fault_of_both options a None ≡ None → IsReady options e None a None masks
+one-ready options e a masks is none =
     let able = both-linkable options a None none in
+    let alone : block_for options (input_of 1 a) None masks ≡ block_for options (input_of 1 a) None [] = ap (block_of options (input_of 1 a ∷ [])) (masks-none options (input_of 1 a) masks) in
     record {
       none = none;
-      bytes = ap (λ (x : Taken). block_for options x None ++ tail_of x a None) is.1 ∙ sym (linked-is options a None able);
+      bytes = ap (λ (x : Taken). block_for options x None masks ++ tail_of masks x a None) is.1 ∙ ap (λ x. x ++ tail_of masks (input_of 1 a) a None) alone ∙ sym (linked-is options a None able);
       linked = file-linked options a None none;
-      size = ap (λ (x : Taken). (positions_of options x None).total) is.1 ∙ sym (file-length options (input_of 1 a) a None able) ∙ sym (ap length (linked-is options a None able));
+      size = ap (λ (x : Taken). (positions_of options x None masks).total) is.1 ∙ ap (λ (x : Positions). x.total) (masks-none options (input_of 1 a) masks)
+          ∙ sym (file-length options (input_of 1 a) a None able) ∙ sym (ap length (linked-is options a None able));
     }
 
-two-ready : (options : Options) (e : Taken) (s : Source) (a b : List ℕ) → IsTakenOf 1 a e → IsTakenOf 2 b s.input.now → first_fault_of_both options a (Some b) ≡ None → IsReady options e (Some s) a (Some b)
-two-ready options e s a b is and none =
+two-ready : (options : Options) (e : Taken) (s : Source) (a b masks : List ℕ) → IsTakenOf 1 a e → IsTakenOf 2 b s.input.now → first_fault_of_both options a (Some b) ≡ None → masks ≡ masks_of e (byte_in a) s.input.now (byte_in b)
+    → IsReady options e (Some s) a (Some b) masks
+two-ready options e s a b masks is and none are =
     let f : Taken = s.input.now in
     let able = both-linkable options a (Some b) none in
+    let M : Taken → Taken → List ℕ = λ x y. masks_of x (byte_in a) y (byte_in b) in
     record {
       none = none;
-      bytes = ap (λ (x : Taken). block_for options x (Some f) ++ tail_of x a (Some (f, b))) is.1
-          ∙ ap (λ (x : Taken). block_for options (input_of 1 a) (Some x) ++ tail_of (input_of 1 a) a (Some (x, b))) and.1
+      bytes = ap (λ m. block_for options e (Some f) m ++ tail_of m e a (Some (f, b))) are
+          ∙ ap (λ (x : Taken). block_for options x (Some f) (M x f) ++ tail_of (M x f) x a (Some (f, b))) is.1
+          ∙ ap (λ (x : Taken). block_for options (input_of 1 a) (Some x) (M (input_of 1 a) x) ++ tail_of (M (input_of 1 a) x) (input_of 1 a) a (Some (x, b))) and.1
           ∙ sym (linked-is options a (Some b) able);
       linked = file-linked options a (Some b) none;
-      size = ap (λ (x : Taken). (positions_of options x (Some f)).total) is.1
-          ∙ ap (λ (x : Taken). (positions_of options (input_of 1 a) (Some x)).total) and.1
+      size = ap (λ m. (positions_of options e (Some f) m).total) are
+          ∙ ap (λ (x : Taken). (positions_of options x (Some f) (M x f)).total) is.1
+          ∙ ap (λ (x : Taken). (positions_of options (input_of 1 a) (Some x) (M (input_of 1 a) x)).total) and.1
           ∙ sym (file-length options (input_of 1 a) a (Some (input_of 2 b, b)) able) ∙ sym (ap length (linked-is options a (Some b) able));
     }
 
-ready : (options : Options) (first : Source) (second : Option Source) (a : List ℕ) (b : Option (List ℕ)) → AreTakenOf a b first.input.now (second_taken second) → first_fault_of_both options a b ≡ None
-    → IsReady options first.input.now second a b
-ready options first None a None is none = one-ready options first.input.now a is none
-ready options first None a (Some b) is none = absurd is
-ready options first (Some s) a None is none = absurd is
-ready options first (Some s) a (Some b) is none = two-ready options first.input.now s a b is.0 is.1 none
+ready : (options : Options) (first : Source) (second : Option Source) (a : List ℕ) (b : Option (List ℕ)) (masks : List ℕ) → AreTakenOf a b first.input.now (second_taken second) → first_fault_of_both options a b ≡ None
+    → AreTrue masks first.input.now a second b → IsReady options first.input.now second a b masks
+ready options first None a None masks is none are = one-ready options first.input.now a masks is none
+ready options first None a (Some b) masks is none are = absurd is
+ready options first (Some s) a None masks is none are = absurd is
+ready options first (Some s) a (Some b) masks is none are = two-ready options first.input.now s a b masks is.0 is.1 none are
+
+pub true-as : (kept : Option FileMap) (m : FileMap) (masks : List ℕ) (first : Source) (second : Option Source) (a : List ℕ) (b : Option (List ℕ)) → kept ≡ Some m → AreTrueFor kept masks first second
+    → AreTold kept first.name.now (second_name second) a b → AreTrue masks first.input.now a second b
+true-as kept m masks first None a b k h told = tt
+true-as kept m masks first (Some s) a None k h told = tt
+true-as kept m masks first (Some s) a (Some b) k h told =
+    let same : told_bytes kept s.name.now ≡ b = (let t = told.1 in cc) in
+    h m k
+    ∙ ap (λ x. masks_of first.input.now (byte_in x) s.input.now (byte_in (told_bytes kept s.name.now))) told.0
+    ∙ ap (λ x. masks_of first.input.now (byte_in a) s.input.now (byte_in x)) same
+
+-- the text of a layout is that of its masks
+tail-as : (options : Options) (kept : Option FileMap) (first : Source) (second : Option Source) (masks : List ℕ) (areas : List (List Area)) (a : List ℕ) (b : Option (List ℕ)) → areas ≡ areas_in first.input.now (second_taken second) masks
+    → AreTold kept first.name.now (second_name second) a b → tail_told kept first second areas ≡ tail_of masks first.input.now a (second_bytes second b)
+tail-as options kept first None masks areas a b are told =
+    ap (tail_told kept first None) are ∙ ap (λ x. input_text BLOCK first.input.now x (areas_one first.input.now)) told.0
+tail-as options kept first (Some s) masks areas a None are told = let t = told.1 in absurd (cc)
+tail-as options kept first (Some s) masks areas a (Some b) are told =
+    let e : Taken = first.input.now in
+    let f : Taken = s.input.now in
+    let same : told_bytes kept s.name.now ≡ b = (let t = told.1 in cc) in
+    ap (tail_told kept first (Some s)) are
+    ∙ ap (λ x. text_one e x ++ text_two masks e f (told_bytes kept s.name.now)) told.0
+    ∙ ap (λ x. text_one e a ++ text_two masks e f x) same
 
 -- ---- the ends
 
@@ -132,30 +181,34 @@ pub record IsReadyFor (options : Options) (text : List ℕ) (n : ℕ) (a : List 
   pub linked : IsLinked options a b (linked_of options a b)
   pub size : n ≡ length (linked_of options a b)
 
-text-ready : (options : Options) (kept : Option FileMap) (first : Source) (second : Option Source) (block : List ℕ) (n : ℕ) (a : List ℕ) (b : Option (List ℕ))
-    → block ≡ block_for options first.input.now (second_taken second) → n ≡ (positions_of options first.input.now (second_taken second)).total
-    → ArePassed options first second None a b → AreTold kept first.name.now (second_name second) a b → IsReadyFor options (block ++ tail_told kept first second) n a b
-text-ready options kept first second block n a b is total passed told =
-    let r = ready options first second a b passed.taken passed.fault in
+text-ready : (options : Options) (kept : Option FileMap) (m : FileMap) (first : Source) (second : Option Source) (block masks : List ℕ) (l : Positions) (n : ℕ) (a : List ℕ) (b : Option (List ℕ)) → kept ≡ Some m
+    → block ≡ block_for options first.input.now (second_taken second) masks → l ≡ positions_of options first.input.now (second_taken second) masks → n ≡ l.total → AreTrueFor kept masks first second
+    → ArePassed options first second None a b → AreTold kept first.name.now (second_name second) a b → IsReadyFor options (block ++ tail_told kept first second l.areas) n a b
+text-ready options kept m first second block masks l n a b k is at total are passed told =
+    let r = ready options first second a b masks passed.taken passed.fault (true-as kept m masks first second a b k are told) in
     record {
       none = r.none;
-      text_is = ap (λ x. x ++ tail_told kept first second) is
-          ∙ ap (λ x. block_for options first.input.now (second_taken second) ++ tail_of first.input.now x (second_bytes second (second_told kept (second_name second)))) told.0
-          ∙ ap (λ x. block_for options first.input.now (second_taken second) ++ tail_of first.input.now a (second_bytes second x)) told.1
+      text_is = ap (λ x. x ++ tail_told kept first second l.areas) is
+          ∙ ap (λ x. block_for options first.input.now (second_taken second) masks ++ x) (tail-as options kept first second masks l.areas a b (laid-are options first.input.now (second_taken second) masks l at) told)
           ∙ r.bytes;
       linked = r.linked;
-      size = total ∙ r.size;
+      size = total ∙ ap (λ (x : Positions). x.total) at ∙ r.size;
     }
 
+pub inputs-by : (P Q : List ℕ → Option (List ℕ) → Type 0) (kept : Option FileMap) (first : List ℕ) (second : Option (List ℕ)) → ((m : FileMap) (a : List ℕ) (b : Option (List ℕ)) → kept ≡ Some m → P a b → Q a b) → HasInputs kept first second P
+    → HasInputs kept first second Q
+inputs-by P Q kept first None f h = λ m k. let t = h m k in (t.0, t.1, f m t.0 None k t.2)
+inputs-by P Q kept first (Some n) f h = λ m k. let t = h m k in (t.0, t.1, λ m' k'. let u = t.2 m' k' in (u.0, u.1, f m t.0 (Some u.0) k u.2))
+
 -- of inputs that were taken and break no rule
-pub all-ready : (options : Options) (kept : Option FileMap) (first : Source) (second : Option Source) (block : List ℕ) (n : ℕ) → IsSource kept 1 first → IfSome second (λ s. IsSource kept 2 s)
+pub all-ready : (options : Options) (kept : Option FileMap) (first : Source) (second : Option Source) (block masks : List ℕ) (l : Positions) (n : ℕ) → IsSource kept 1 first → IfSome second (λ s. IsSource kept 2 s)
     → ForFile kept (x64_name first second) (λ b. first_fault (pair_rules options first.input.now (second_taken second) b) ≡ None)
-    → block ≡ block_for options first.input.now (second_taken second) → n ≡ (positions_of options first.input.now (second_taken second)).total
-    → HasInputs kept first.name.now (second_name second) (IsReadyFor options (block ++ tail_told kept first second) n)
-all-ready options kept first second block n h k says is total =
-    inputs-have (λ a b. ArePassed options first second None a b × AreTold kept first.name.now (second_name second) a b)
-    (IsReadyFor options (block ++ tail_told kept first second) n) kept first.name.now (second_name second)
-    (λ a b t. text-ready options kept first second block n a b is total t.0 t.1)
+    → block ≡ block_for options first.input.now (second_taken second) masks → l ≡ positions_of options first.input.now (second_taken second) masks → n ≡ l.total → AreTrueFor kept masks first second
+    → HasInputs kept first.name.now (second_name second) (IsReadyFor options (block ++ tail_told kept first second l.areas) n)
+all-ready options kept first second block masks l n h k says is at total are =
+    inputs-by (λ a b. ArePassed options first second None a b × AreTold kept first.name.now (second_name second) a b)
+    (IsReadyFor options (block ++ tail_told kept first second l.areas) n) kept first.name.now (second_name second)
+    (λ m a b e t. text-ready options kept m first second block masks l n a b e is at total are t.0 t.1)
     (inputs-told (ArePassed options first second None) kept first.name.now (second_name second) (sources-passed options kept first second None h k says))
 
 -- the file is made of them
@@ -201,6 +254,10 @@ unread : (old new : FileState) (first : List ℕ) (second : Option (List ℕ)) �
 unread old new first None r = record { files = r.files; write_faults = r.write_faults; cause = inl r.rose }
 unread old new first (Some n) r = inl (record { files = r.files; write_faults = r.write_faults; cause = inl r.rose })
 
+-- a read fails while they are compared
+pub links-unfound : (options : Options) (old new : FileState) (first : List ℕ) (second : Option (List ℕ)) (out : List ℕ) → ReadFails old new → LinksFiles options old new first second out (Err ReadFault)
+links-unfound options old new first second out r = inl (unread old new first second r)
+
 -- a check of them refuses them, or fails to read one
 pub links-unchecked : (T : Type 0) (options : Options) (old new : FileState) (first : Source) (second : Option Source) (out name : List ℕ) (end : CheckEnd) → IsSource old.kept 1 first
     → IfSome second (λ s. IsSource old.kept 2 s) → name ≡ x64_name first second → ChecksTold {T = T} old new name (pair_rules options first.input.now (second_taken second)) (Err end)
@@ -212,9 +269,9 @@ links-unchecked T options old new first second out name check.ReadFault h k is t
 
 -- ---- what a job gives, by its inputs
 
-pub positions-as : (options s : Options) (l : Positions) (e x : Taken) (o y : Option Taken) → l ≡ positions_of s x y → s ≡ options → x ≡ e → y ≡ o → l ≡ positions_of options e o
-positions-as options s l e x o y is also h k = is ∙ ap (λ z. positions_of z x y) also ∙ ap (λ z. positions_of options z y) h ∙ ap (positions_of options e) k
+pub positions-as : (options : Options) (masks : List ℕ) (l : Positions) (e x : Taken) (o y : Option Taken) → l ≡ positions_of options x y masks → x ≡ e → y ≡ o → l ≡ positions_of options e o masks
+positions-as options masks l e x o y is h k = is ∙ ap (λ z. positions_of options z y masks) h ∙ ap (λ z. positions_of options e z masks) k
 
-pub block-as : (block : List ℕ) (options s : Options) (l : Positions) (e x : Taken) (o y : Option Taken) → block ≡ block_of s (inputs_of x y) l → s ≡ options → l ≡ positions_of s x y → x ≡ e → y ≡ o → block ≡ block_for options e o
-block-as block options s l e x o y is t p h k =
-    is ∙ ap (block_of s (inputs_of x y)) p ∙ ap (λ z. block_for z x y) t ∙ ap (λ z. block_for options z y) h ∙ ap (block_for options e) k
+pub block-as : (block : List ℕ) (options : Options) (masks : List ℕ) (l : Positions) (e x : Taken) (o y : Option Taken) → block ≡ block_of options (inputs_of x y) l → l ≡ positions_of options x y masks → x ≡ e → y ≡ o → block ≡ block_for options e o masks
+block-as block options masks l e x o y is p h k =
+    is ∙ ap (block_of options (inputs_of x y)) p ∙ ap (λ z. block_for options z y masks) h ∙ ap (λ z. block_for options e z masks) k

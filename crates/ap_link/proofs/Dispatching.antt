@@ -1,5 +1,5 @@
 -- The script of a linked file ends as the dispatch table says.
-use Rattle.std.proofs.Common.{◌≡◌, ◌≢◌, ℕ, ◌/◌, List, [], ◌∷◌, ◌++◌}
+use Rattle.std.proofs.Common.{◌≢◌, ℕ, ◌/◌, List, [], ◌∷◌, ◌++◌}
 use Rattle.ap_check.specs.declared.options.Options.{Options}
 use Rattle.ap_check.specs.Inputs.{Taken}
 use Rattle.ap_elf.specs.declared.machine.Machine.TheVariants.{X64, A64}

@@ -11,16 +11,17 @@ pub mod Holding
 pub mod Fitting
 pub mod LinkedImages
 pub mod PlacedTexts
+pub mod TrueMasks
 pub mod PeLinked
 pub mod MachLinked
 pub mod Dispatching
+pub mod ClaimedFiles
 pub mod LinkedFiles
 pub mod Building
 pub mod EndsBehind
 pub mod LaidAreas
 pub mod Delivering
 pub mod Handing
-pub mod ClaimedFiles
 pub mod Filling
 pub mod Lending
 pub mod HeldLemmas
@@ -32,3 +33,5 @@ pub mod PeImageProof
 pub mod ImportDirectories
 pub mod LinkedImports
 pub mod MachImageProof
+pub mod Comparing
+pub mod Sides

@@ -1,6 +1,5 @@
 -- The Mach-O reading of a file with an input's Mach-O header over its first bytes, and its areas, has the input's image.
-use Rattle.std.proofs.Common.{◌≡◌, inl, inr, ℕ, ◌+◌, ◌*◌, ◌-◌, ◌%◌, ◌^◌, ◌<◌, ◌≤◌, true, false, ◌==◌, cond, List, [], ◌∷◌, ◌++◌, length, map, drop, Ok, refl, sym, ap, ◌∙◌, subst, arith}
-use Rattle.std.proofs.lemmas.Bool.{cases_Bool}
+use Rattle.std.proofs.Common.{◌≡◌, inl, ℕ, ◌+◌, ◌-◌, ◌%◌, ◌<◌, ◌≤◌, false, ◌==◌, cond, List, [], ◌∷◌, length, map, drop, refl, sym, ap, ◌∙◌, subst, arith}
 use Rattle.std.proofs.lemmas.Bool.Decides.{nat_tests}
 use Rattle.ap_fields.specs.Bytes.{over}
 use Rattle.ap_fields.specs.Granules.{floor_of, ceil_of}
@@ -13,11 +12,10 @@ use Rattle.ap_check.specs.declared.load.Load.{Load}
 use Rattle.ap_check.specs.Inputs.{IsLoad, AreLoads}
 use Rattle.ap_image.specs.declared.plan.Region.{Region}
 use Rattle.ap_layout.specs.declared.layout.Area.{Area}
-use Rattle.ap_layout.specs.Areas.{content_length}
 use Rattle.ap_mach.specs.declared.types.SegmentCommand.{SegmentCommand}
 use Rattle.ap_mach.specs.Segments.{load_segment, load_segments}
 use Rattle.ap_mach.specs.Written.{mach_headers}
-use Rattle.ap_mach.specs.MachReading.{segment_cell, mach_reading}
+use Rattle.ap_mach.specs.MachReading.{segment_cell}
 use Rattle.ap_mach.specs.ReadBack.{HasArea, HaveAreas, BeginsWith}
 use Rattle.ap_mach.proofs.HeaderReads.{reads-back}
 use Rattle.ap_mach.proofs.Protections.{segments-allow}

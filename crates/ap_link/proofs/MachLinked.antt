@@ -1,6 +1,6 @@
 -- A linked file holds the Mach-O header of its input for x86-64 at its place, and the script's `dd` writes it over the file's first
 -- bytes.
-use Rattle.std.proofs.Common.{◌≡◌, inl, inr, ℕ, ◌+◌, ◌-◌, ◌*◌, ◌/◌, ◌^◌, ◌<◌, ◌≤◌, ◌&&◌, nat_le, nat_lt, cond, List, [], ◌∷◌, ◌++◌, length, take, drop, get_or, Option, Some, None, true, refl, sym, ap, ◌∙◌, subst, arith, length-append}
+use Rattle.std.proofs.Common.{◌≡◌, inl, inr, ℕ, ◌+◌, ◌*◌, ◌/◌, ◌^◌, ◌<◌, ◌≤◌, ◌&&◌, nat_le, nat_lt, cond, List, [], ◌∷◌, ◌++◌, length, take, drop, Option, Some, None, true, refl, sym, ap, ◌∙◌, subst, arith, length-append}
 use Rattle.std.specs.Prelude.{IfSome}
 use Rattle.std.specs.Option.{option_map}
 use Rattle.std.proofs.lemmas.Bool.{and_parts, or_cases}
@@ -8,7 +8,7 @@ use Rattle.std.proofs.lemmas.Bool.Decides.{nat_tests}
 use Rattle.std.proofs.lemmas.Grind.{same_number_lists}
 use Rattle.std.proofs.lemmas.List.{length-take-le, length-drop, get_or-take, get_or-drop}
 use Rattle.ap_fields.specs.Bytes.{Holds, over}
-use Rattle.ap_fields.specs.declared.sizes.TheConstants.{BLOCK, WINDOW}
+use Rattle.ap_fields.specs.declared.sizes.TheConstants.{BLOCK}
 use Rattle.ap_octal.specs.DdEffect.{dd_effect}
 use Rattle.ap_octal.proofs.DdOntoItself.{onto_itself}
 use Rattle.ap_claims.specs.Lists.{Claim, Among}
@@ -111,6 +111,14 @@ found-place options inputs l p differ fits has chosen machine =
     ap (λ b. cond b (placed_for X64 (placed_inputs inputs l)) None) chosen
     ∙ ap (λ m. placed_for m (placed_inputs inputs l)) (sym machine)
     ∙ placed_for-input options inputs l p differ fits has
+
+pub mach-input-is : (options : Options) (inputs : List Taken) (l : Positions) (p : PlacedInput) → MachinesDiffer inputs → Fits options inputs l → IsOneOf p (placed_inputs inputs l) → for_mac options ≡ true → p.input.machine ≡ X64
+    → mach_input options inputs ≡ Some p.input
+mach-input-is options inputs l p differ fits has chosen machine =
+    ap (λ b. cond b (x64_of inputs) None) chosen
+    ∙ sym (found-in options inputs l fits).1
+    ∙ ap (λ m. option_map (λ (q : PlacedInput). q.input) (placed_for m (placed_inputs inputs l))) (sym machine)
+    ∙ ap (option_map (λ (q : PlacedInput). q.input)) (placed_for-input options inputs l p differ fits has)
 
 pub mach-text-is : (options : Options) (inputs : List Taken) (l : Positions) (p : PlacedInput) → MachinesDiffer inputs → Fits options inputs l → IsOneOf p (placed_inputs inputs l) → for_mac options ≡ true → p.input.machine ≡ X64
     → mach_text options inputs l ≡ mach_headers (mach_entry_of p.input) p.input.loads p.areas

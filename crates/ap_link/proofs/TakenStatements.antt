@@ -1,5 +1,5 @@
 -- The statement that a loader takes of a file that begins with a block.
-use Rattle.std.proofs.Common.{◌≡◌, ◌≢◌, ◌⊎◌, inl, inr, ℕ, ◌+◌, ◌-◌, ◌<◌, ◌==◌, ◌&&◌, cond, Bool, true, false, List, ◌++◌, length, take, drop, Option, Some, None, refl, sym, ap, ◌∙◌, arith, subst, append_assoc}
+use Rattle.std.proofs.Common.{◌≡◌, ◌≢◌, ◌⊎◌, inl, inr, ℕ, ◌+◌, ◌<◌, ◌==◌, ◌&&◌, cond, Bool, true, false, List, ◌++◌, length, take, drop, Option, Some, None, refl, sym, ap, ◌∙◌, arith, subst, append_assoc}
 use Rattle.std.specs.Prelude.{All, codes}
 use Rattle.std.specs.Option.{option_and_then}
 use Rattle.memchr.specs.Find.{occurs_at}
@@ -7,7 +7,7 @@ use Rattle.memchr.proofs.lemmas.MatchLemmas.{OccursAt-true}
 use Rattle.std.proofs.lemmas.Bool.{cases_Bool, cases_eq}
 use Rattle.std.proofs.lemmas.Bool.Decides.{nat_tests}
 use Rattle.std.proofs.lemmas.List.{take_all}
-use Rattle.ap_fields.specs.declared.sizes.TheConstants.{BLOCK, WINDOW}
+use Rattle.ap_fields.specs.declared.sizes.TheConstants.{WINDOW}
 use Rattle.ap_fields.specs.Bytes.{zeros}
 use Rattle.ap_fields.specs.Fields.{number_at}
 use Rattle.ap_octal.specs.OctalReading.{octal_bytes_of}

@@ -1,5 +1,5 @@
 -- How far the areas of an input are written, and what is made of them.
-use Rattle.std.proofs.Common.{◌≡◌, ◌≢◌, ℕ, ◌+◌, ◌-◌, ◌%◌, ◌^◌, ◌<◌, true, false, List, [], ◌∷◌, ◌++◌, take, replicate, Option, Some, None, Ok, refl, sym, ap, ◌∙◌, subst, append_assoc, append-nil}
+use Rattle.std.proofs.Common.{◌≡◌, ◌≢◌, ℕ, ◌+◌, ◌-◌, ◌%◌, ◌<◌, true, false, List, [], ◌∷◌, ◌++◌, take, get_or, replicate, Option, Some, None, Ok, refl, sym, ap, ◌∙◌, subst, append_assoc, append-nil}
 use Rattle.std.proofs.lemmas.Bool.{cond-true, cond-false}
 use Rattle.ap_fields.specs.Bytes.{zeros}
 use Rattle.ap_fields.specs.Granules.{IsGranule, ceil_of}
@@ -14,16 +14,14 @@ use Rattle.ap_files.proofs.ReadLemmas.{has_range}
 use Rattle.ap_files.proofs.Appending.{nothing, then, broken, still-unfinished, range-still, bytes-still}
 use Rattle.ap_check.specs.declared.load.Load.{Load}
 use Rattle.ap_layout.specs.declared.layout.Area.{Area}
-use Rattle.ap_layout.specs.Areas.{content_of, content_length, end_of, is_new}
-use Rattle.ap_layout.specs.Positions.{input_areas}
+use Rattle.ap_layout.specs.Areas.{content_of, content_length, end_of, end_from, is_new}
 use Rattle.ap_elf.specs.Machines.{granule_of}
-use Rattle.ap_check.specs.Inputs.{Taken, Meets}
+use Rattle.ap_check.specs.Inputs.{Taken}
 use Rattle.ap_link.specs.declared.source.Source.{Source}
-use Rattle.ap_link.specs.Linked.{areas_text, input_text, input_end}
+use Rattle.ap_link.specs.Linked.{areas_text, input_text}
 use Rattle.ap_link.specs.Nexts.{AreNext}
-use Rattle.ap_link.specs.Sources.{IsReadable, IsReadableSource, AreReadable, part_of, tail_told}
+use Rattle.ap_link.specs.Sources.{IsReadable, IsReadableSource, AreReadable, part_of, source_text, tail_told}
 use Rattle.ap_link.proofs.AreaTexts.{text-new, text-old, area-parts, gap-room, tail-room, tail-count}
-use Rattle.ap_link.proofs.LaidAreas.{placed-next}
 
 -- some areas are written, and those that are left lead to the whole
 pub record Writing (old now : FileState) (out whole : List ℕ) (g : ℕ) (byte : ℕ → ℕ) (size end : ℕ) (loads : List Load) (areas : List Area) : Type 0 where
@@ -32,17 +30,16 @@ pub record Writing (old now : FileState) (out whole : List ℕ) (g : ℕ) (byte 
   pub leads : text ++ areas_text end g byte loads areas ≡ whole
   pub next : AreNext g size end loads areas
 
-pub writing-start : (s : FileState) (name out : List ℕ) (e : Taken) (g from : ℕ) (loads : List Load) (areas : List Area) → IsUnfinished s out → Meets e → from < 2 ^ 31 → g ≡ granule_of e.machine → loads ≡ e.loads → areas ≡ input_areas e from
-    → Writing s s out (input_text from e (told_bytes s.kept name)) g (bytes_in (told_bytes s.kept name)) e.size from loads areas
-writing-start s name out e g from loads areas opened meets small g-is loads-is areas-is =
+pub writing-start : (s : FileState) (name out : List ℕ) (e : Taken) (g from : ℕ) (loads : List Load) (areas : List Area) → IsUnfinished s out → g ≡ granule_of e.machine → loads ≡ e.loads → AreNext (granule_of e.machine) e.size from e.loads areas
+    → Writing s s out (input_text from e (told_bytes s.kept name) areas) g (bytes_in (told_bytes s.kept name)) e.size from loads areas
+writing-start s name out e g from loads areas opened g-is loads-is follow =
     let byte : ℕ → ℕ = bytes_in (told_bytes s.kept name) in
     record {
       text = [];
       put = nothing s out opened;
       leads = ap (λ x. areas_text from x byte loads areas) g-is
-          ∙ ap (λ x. areas_text from (granule_of e.machine) byte x areas) loads-is
-          ∙ ap (areas_text from (granule_of e.machine) byte e.loads) areas-is;
-      next = placed-next e g e.size from loads areas meets small g-is refl loads-is areas-is;
+          ∙ ap (λ x. areas_text from (granule_of e.machine) byte x areas) loads-is;
+      next = subst (λ n. AreNext n e.size from loads areas) (sym g-is) (subst (λ x. AreNext (granule_of e.machine) e.size from x areas) (sym loads-is) follow);
     }
 
 pub writing-here : (old now : FileState) (out whole : List ℕ) (g : ℕ) (byte : ℕ → ℕ) (size end : ℕ) (front rest : List Load) (ahead more : List Area) (p : Load) (a : Area) → front ≡ p ∷ rest → ahead ≡ a ∷ more
@@ -189,40 +186,44 @@ readable-second old new first s second out text is a h =
     readable-still old new s.name.now s.input.now.size out text a both.1
 
 -- the tail has the inputs' bytes as they were at first
-second-tail : (old new : FileState) (first : Source) (second : Option Source) (out : List ℕ) → AreReadable old.kept first second out
-    → ((name : List ℕ) → name ≢ out → told_bytes new.kept name ≡ told_bytes old.kept name) → tail_told new.kept first second ≡ tail_told old.kept first second
-second-tail old new first None out h same = ap (input_text BLOCK first.input.now) (same first.name.now h.0.apart)
-second-tail old new first (Some s) out h same =
-    ap (λ b. input_text BLOCK first.input.now b ++ input_text (input_end first.input.now) s.input.now (told_bytes new.kept s.name.now)) (same first.name.now h.0.apart)
-    ∙ ap (λ b. input_text BLOCK first.input.now (told_bytes old.kept first.name.now) ++ input_text (input_end first.input.now) s.input.now b) (same s.name.now h.1.apart)
+second-tail : (old new : FileState) (first : Source) (second : Option Source) (areas : List (List Area)) (out : List ℕ) → AreReadable old.kept first second out
+    → ((name : List ℕ) → name ≢ out → told_bytes new.kept name ≡ told_bytes old.kept name) → tail_told new.kept first second areas ≡ tail_told old.kept first second areas
+second-tail old new first None areas out h same = ap (λ b. input_text BLOCK first.input.now b (get_or areas 0 [])) (same first.name.now h.0.apart)
+second-tail old new first (Some s) areas out h same =
+    let end : ℕ = end_from BLOCK (get_or areas 0 []) in
+    ap (λ b. input_text BLOCK first.input.now b (get_or areas 0 []) ++ input_text end s.input.now (told_bytes new.kept s.name.now) (get_or areas 1 [])) (same first.name.now h.0.apart)
+    ∙ ap (λ b. input_text BLOCK first.input.now (told_bytes old.kept first.name.now) (get_or areas 0 []) ++ input_text end s.input.now b (get_or areas 1 [])) (same s.name.now h.1.apart)
 
 -- the block, and what is behind it
-pub block-behind : (old mid put new : FileState) (first : Source) (second : Option Source) (out block : List ℕ) (o : Option FileFault) → Starts old mid out (Ok tt) → Appends mid put out block None → AreReadable old.kept first second out
-    → Appends put new out (tail_told put.kept first second) o → Appends mid new out (block ++ tail_told old.kept first second) o
-block-behind old mid put new first second out block o s a h tail =
+pub block-behind : (old mid put new : FileState) (first : Source) (second : Option Source) (areas : List (List Area)) (out block : List ℕ) (o : Option FileFault) → Starts old mid out (Ok tt) → Appends mid put out block None → AreReadable old.kept first second out
+    → Appends put new out (tail_told put.kept first second areas) o → Appends mid new out (block ++ tail_told old.kept first second areas) o
+block-behind old mid put new first second areas out block o s a h tail =
     let same : (name : List ℕ) → name ≢ out → told_bytes put.kept name ≡ told_bytes old.kept name =
     λ name apart. bytes-still mid put name out block apart a ∙ ap (λ k. told_bytes k name) s.kept ∙ bytes-file old.kept name out [] apart in
-    then mid put new out block (tail_told old.kept first second) o a
-    (subst (λ t. Appends put new out t o) (second-tail old put first second out h same) tail)
+    then mid put new out block (tail_told old.kept first second areas) o a
+    (subst (λ t. Appends put new out t o) (second-tail old put first second areas out h same) tail)
 
 -- the first input's areas, alone or with the second's behind them
-pub first-alone : (old new : FileState) (first : Source) (second : Option Source) (out : List ℕ) (o : Option FileFault) → second ≡ None → Appends old new out (input_text BLOCK first.input.now (told_bytes old.kept first.name.now)) o
-    → Appends old new out (tail_told old.kept first second) o
-first-alone old new first second out o is a = subst (λ x. Appends old new out (tail_told old.kept first x) o) (sym is) a
+pub first-alone : (old new : FileState) (first : Source) (second : Option Source) (areas : List (List Area)) (one : List Area) (out : List ℕ) (o : Option FileFault) → second ≡ None → one ≡ get_or areas 0 []
+    → Appends old new out (source_text BLOCK old.kept first one) o → Appends old new out (tail_told old.kept first second areas) o
+first-alone old new first second areas one out o is are a =
+    subst (λ x. Appends old new out (tail_told old.kept first x areas) o) (sym is) (subst (λ x. Appends old new out (source_text BLOCK old.kept first x) o) are a)
 
-pub first-broken : (old new : FileState) (first : Source) (second : Option Source) (out : List ℕ) (f : FileFault) → Appends old new out (input_text BLOCK first.input.now (told_bytes old.kept first.name.now)) (Some f)
-    → Appends old new out (tail_told old.kept first second) (Some f)
-first-broken old new first None out f a = a
-first-broken old new first (Some s) out f a =
-    broken old new out (input_text BLOCK first.input.now (told_bytes old.kept first.name.now)) (input_text (input_end first.input.now) s.input.now (told_bytes old.kept s.name.now)) f a
+pub first-broken : (old new : FileState) (first : Source) (second : Option Source) (areas : List (List Area)) (one : List Area) (out : List ℕ) (f : FileFault) → one ≡ get_or areas 0 []
+    → Appends old new out (source_text BLOCK old.kept first one) (Some f) → Appends old new out (tail_told old.kept first second areas) (Some f)
+first-broken old new first None areas one out f are a = subst (λ x. Appends old new out (source_text BLOCK old.kept first x) (Some f)) are a
+first-broken old new first (Some s) areas one out f are a =
+    broken old new out (source_text BLOCK old.kept first (get_or areas 0 [])) (source_text (end_from BLOCK (get_or areas 0 [])) old.kept s (get_or areas 1 [])) f
+    (subst (λ x. Appends old new out (source_text BLOCK old.kept first x) (Some f)) are a)
 
-pub second-behind : (old mid new : FileState) (first s : Source) (second : Option Source) (out : List ℕ) (end : ℕ) (o : Option FileFault) → second ≡ Some s → AreReadable old.kept first second out → end ≡ input_end first.input.now
-    → Appends old mid out (input_text BLOCK first.input.now (told_bytes old.kept first.name.now)) None → Appends mid new out (input_text end s.input.now (told_bytes mid.kept s.name.now)) o
-    → Appends old new out (tail_told old.kept first second) o
-second-behind old mid new first s second out end o is h ends a b =
+pub second-behind : (old mid new : FileState) (first s : Source) (second : Option Source) (areas : List (List Area)) (one two : List Area) (out : List ℕ) (end : ℕ) (o : Option FileFault) → second ≡ Some s → AreReadable old.kept first second out
+    → one ≡ get_or areas 0 [] → two ≡ get_or areas 1 [] → end ≡ end_from BLOCK (get_or areas 0 [])
+    → Appends old mid out (source_text BLOCK old.kept first one) None → Appends mid new out (source_text end mid.kept s two) o → Appends old new out (tail_told old.kept first second areas) o
+second-behind old mid new first s second areas one two out end o is h are also ends a b =
     let both : AreReadable old.kept first (Some s) out = subst (λ x. AreReadable old.kept first x out) is h in
-    let one : List ℕ = input_text BLOCK first.input.now (told_bytes old.kept first.name.now) in
-    subst (λ x. Appends old new out (tail_told old.kept first x) o) (sym is)
-    (then old mid new out one (input_text (input_end first.input.now) s.input.now (told_bytes old.kept s.name.now)) o a
+    let put = subst (λ x. Appends old mid out (source_text BLOCK old.kept first x) None) are a in
+    subst (λ x. Appends old new out (tail_told old.kept first x areas) o) (sym is)
+    (then old mid new out (source_text BLOCK old.kept first (get_or areas 0 [])) (source_text (end_from BLOCK (get_or areas 0 [])) old.kept s (get_or areas 1 [])) o put
     (subst (λ t. Appends mid new out t o)
-    (ap (λ n. input_text n s.input.now (told_bytes mid.kept s.name.now)) ends ∙ ap (input_text (input_end first.input.now) s.input.now) (bytes-still old mid s.name.now out one both.1.apart a)) b))
+    (ap (λ n. source_text n mid.kept s two) ends ∙ ap (source_text (end_from BLOCK (get_or areas 0 [])) mid.kept s) also
+    ∙ ap (λ x. input_text (end_from BLOCK (get_or areas 0 [])) s.input.now x (get_or areas 1 [])) (bytes-still old mid s.name.now out (source_text BLOCK old.kept first (get_or areas 0 [])) both.1.apart put)) b))

@@ -13,3 +13,4 @@ pub mod Answers
 pub mod FileAnswers
 pub mod Lent
 pub mod Held
+pub mod Compared

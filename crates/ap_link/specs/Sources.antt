@@ -1,9 +1,10 @@
 -- One or two inputs of files, as they were taken.
-use Rattle.std.specs.Prelude.{◌≡◌, ◌≢◌, ℕ, if◌then◌else◌, List, IfSome, Option, Some, None}
+use Rattle.std.specs.Prelude.{◌≡◌, ◌≢◌, ℕ, if◌then◌else◌, List, [], ◌++◌, get_or, IfSome, Result, Ok, Err, Option, Some, None}
 use Rattle.ap_fields.specs.Bytes.{listed}
 use Rattle.ap_fields.specs.Readings.{bytes_in}
-use Rattle.ap_files.specs.Files.{FileMap, told_bytes}
-use Rattle.ap_files.specs.Reads.{HasFile, HasSize}
+use Rattle.ap_files.specs.Files.{FileMap, FileState, told_bytes}
+use Rattle.ap_files.specs.declared.failure.Failed.{Failed}
+use Rattle.ap_files.specs.Reads.{HasFile, HasSize, ReadFails}
 use Rattle.ap_files.specs.declared.failure.FileFault.{FileFault}
 use Rattle.ap_files.specs.declared.failure.FileFault.TheVariants as file
 use Rattle.ap_elf.specs.declared.machine.Machine.TheVariants.{X64}
@@ -13,13 +14,18 @@ use Rattle.ap_check.specs.declared.end.CheckEnd.TheVariants as check
 use Rattle.ap_check.specs.declared.options.Options.{Options}
 use Rattle.ap_check.specs.Inputs.{Taken}
 use Rattle.ap_check.specs.Both.{IsTakenOf}
+use Rattle.ap_fields.specs.declared.sizes.TheConstants.{BLOCK}
+use Rattle.ap_layout.specs.declared.layout.Area.{Area}
+use Rattle.ap_layout.specs.Areas.{end_from}
+use Rattle.ap_layout.specs.declared.twins.Twins.{Twins}
+use Rattle.ap_layout.specs.Twins.{masks_of}
 use Rattle.ap_layout.specs.Positions.{Positions, positions_of}
 use Rattle.ap_link.specs.declared.end.LinkEnd.{LinkEnd}
 use Rattle.ap_link.specs.declared.end.LinkEnd.TheVariants.{Rule, ReadFault, WriteFault}
 use Rattle.ap_link.specs.declared.source.Source.{Source}
-use Rattle.ap_link.specs.Linked.{tail_of}
+use Rattle.ap_link.specs.Linked.{input_text}
 
--- the name of the second input's file, and what was taken of it, with bytes and without
+-- the name of the second input's file, and what was taken of it
 abbrev pub second_name : Option Source → Option (List ℕ)
 second_name None = None
 second_name (Some s) = Some s.name.now
@@ -27,11 +33,6 @@ second_name (Some s) = Some s.name.now
 abbrev pub second_taken : Option Source → Option Taken
 second_taken None = None
 second_taken (Some s) = Some s.input.now
-
-abbrev pub second_bytes : Option Source → Option (List ℕ) → Option (Taken × List ℕ)
-second_bytes None b = None
-second_bytes (Some s) None = None
-second_bytes (Some s) (Some b) = Some (s.input.now, b)
 
 -- the name of the file of the input for x86-64, of one or two inputs; that of either where there is none
 abbrev pub x64_name : Source → Option Source → List ℕ
@@ -43,10 +44,15 @@ abbrev pub second_told : Option FileMap → Option (List ℕ) → Option (List �
 second_told kept None = None
 second_told kept (Some name) = Some (told_bytes kept name)
 
--- what stands behind the block of a linked file, by the bytes of the inputs' files
-abbrev pub tail_told : Option FileMap → Source → Option Source → List ℕ
-tail_told kept first second =
-    tail_of first.input.now (told_bytes kept first.name.now) (second_bytes second (second_told kept (second_name second)))
+-- what stands for an input behind the first c bytes, by the bytes of its file
+abbrev pub source_text : ℕ → Option FileMap → Source → List Area → List ℕ
+source_text c kept s areas = input_text c s.input.now (told_bytes kept s.name.now) areas
+
+-- what stands behind the block of a linked file, by the bytes of the inputs' files and the areas of each
+abbrev pub tail_told : Option FileMap → Source → Option Source → List (List Area) → List ℕ
+tail_told kept first None areas = source_text BLOCK kept first (get_or areas 0 [])
+tail_told kept first (Some s) areas =
+    source_text BLOCK kept first (get_or areas 0 []) ++ source_text (end_from BLOCK (get_or areas 0 [])) kept s (get_or areas 1 [])
 
 -- the bytes of a part of an input
 abbrev pub part_of : ℕ → ℕ → List ℕ → List ℕ
@@ -69,9 +75,20 @@ pub record IsSource (kept : Option FileMap) (n : ℕ) (s : Source) : Type 0 wher
   pub size : HasSize kept s.name.now s.input.now.size
   pub number : s.input.now.number ≡ n
 
--- the positions of one or two inputs, whatever the options are
+-- the positions of one or two inputs, whatever the options and the masks are
 abbrev pub ArePositions : Taken → Option Taken → Positions → Type 0
-ArePositions e o l = (options : Options) × (l ≡ positions_of options e o)
+ArePositions e o l = (options : Options) × (masks : List ℕ) × (l ≡ positions_of options e o masks)
+
+-- masks are true of the files of two inputs, where files are told
+abbrev pub AreTrueFor : Option FileMap → List ℕ → Source → Option Source → Type 0
+AreTrueFor kept masks first None = Unit {0}
+AreTrueFor kept masks first (Some s) =
+    (m : FileMap) → kept ≡ Some m → masks ≡ masks_of first.input.now (bytes_in (told_bytes kept first.name.now)) s.input.now (bytes_in (told_bytes kept s.name.now))
+
+-- the masks of two inputs are found, and the state is as before; or a read failed
+abbrev pub FindsTwins : FileState → FileState → Source → Option Source → Result Twins Failed → Type 0
+FindsTwins old new first second (Ok twins) = (new ≡ old) × AreTrueFor old.kept twins.masks.items first second
+FindsTwins old new first second (Err failed) = ReadFails old new
 
 -- how a link ends where an input isn't taken, and where a file isn't made
 abbrev pub end_of_check : CheckEnd → LinkEnd

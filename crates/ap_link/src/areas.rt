@@ -1,5 +1,5 @@
 // The areas of an input, written behind what stands of a linked file.
-ghost use Rattle.std.specs.Prelude.{◌≡◌, ◌≢◌, ◌<◌, ◌+◌, ◌++◌, ◌^◌};
+ghost use Rattle.std.specs.Prelude.{◌≡◌, ◌≢◌, ◌<◌, ◌+◌, ◌++◌, ◌^◌, length};
 ghost use Rattle.ap_fields.specs.Bytes as bytes;
 ghost use Rattle.ap_fields.specs.Granules.{IsGranule};
 ghost use Rattle.ap_fields.specs.Readings.{bytes_in};
@@ -7,8 +7,10 @@ ghost use Rattle.ap_files.specs.Files.{IsUnfinished, HasRange, told_bytes};
 ghost use Rattle.ap_files.specs.Appends.{Appends, failure_of};
 ghost use Rattle.ap_layout.specs.Areas as spec;
 ghost use Rattle.ap_layout.specs.Areas.{content_of};
-ghost use Rattle.ap_layout.specs.Positions.{input_areas};
+ghost use Rattle.ap_elf.specs.Machines.{granule_of};
+ghost use Rattle.ap_check.specs.Inputs.{Meets};
 ghost use Rattle.ap_link.specs.Linked.{input_text};
+ghost use Rattle.ap_link.specs.Nexts.{AreNext};
 ghost use Rattle.ap_link.specs.Sources.{IsReadable};
 
 use crate::copy::copy;
@@ -26,12 +28,13 @@ pub fn write_input<F: Files>(
     from: u64,
     out: &str,
 ) -> Result<(), FileFault>
-    requires areas { areas.now ≡ input_areas input.now from }
-    requires small { from < 2 ^ 31 }
+    requires count { length areas.now ≡ length input.now.loads }
+    requires next { Meets input.now
+        → AreNext (granule_of input.now.machine) input.now.size from input.now.loads areas.now }
     requires readable { IsReadable (F.state files.old).kept name.now input.now.size out.now }
     requires out { IsUnfinished (F.state files.old) out.now }
     ensures { Appends (F.state files.old) (F.state files.new) out.now
-        (input_text from input.now (told_bytes (F.state files.old).kept name.now)) (failure_of result) }
+        (input_text from input.now (told_bytes (F.state files.old).kept name.now) areas.now) (failure_of result) }
 {
     let loads = input.loads.as_slice();
     let granule = input.machine.granule();

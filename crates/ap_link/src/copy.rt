@@ -7,7 +7,7 @@ ghost use Rattle.ap_link.specs.Sources.{part_of};
 use ap_files::{FileFault, Files, append};
 
 // How many bytes are read and written at once.
-const PIECE: usize = 1 << 16;
+const PIECE: usize = 1 << 18;
 
 /// Appends `count` bytes of the file `input` from the byte `from` on to the file `out`, in large pieces.
 pub fn copy<F: Files>(

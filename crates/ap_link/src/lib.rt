@@ -7,6 +7,8 @@ mod held; // the files that it takes and makes
 mod source; // the inputs of a link of files
 mod end; // how it ends without its file
 mod fault; // why an input isn't linked
+mod twins; // which loads have the same content
+mod content; // the content of a load, piece by piece
 mod fill; // the block, filled by its claims
 mod write; // the linked file, written
 mod laid; // where areas end

@@ -15,6 +15,7 @@ ghost use Rattle.ap_link.specs.Sources.{IsSource, second_name, second_taken};
 use crate::end::{LinkEnd, end_of_check, end_of_fault};
 use crate::fill::fill;
 use crate::source::{Source, Sources};
+use crate::twins::find_twins;
 use crate::write::write_linked;
 use ap_check::{Input, Job, Machine, Options, check_all_in, check_input_in};
 use ap_claims::Block;
@@ -178,7 +179,11 @@ fn link_job<F: Files>(
     ensures files { LinksFiles job.now.options (F.state files.old) (F.state files.new)
         sources.now.first.name.now (second_name sources.now.second) out.now result }
 {
-    let lay = place(job);
+    let twins = match find_twins(files, sources) {
+        Ok(twins) => twins,
+        Err(_) => return Err(LinkEnd::ReadFault),
+    };
+    let lay = place(job, &twins);
     fill(block, job, &lay);
     match write_linked(files, sources, &lay, block.bytes(), out) {
         Ok(()) => Ok(lay.total),

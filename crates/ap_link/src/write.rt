@@ -25,7 +25,7 @@ pub fn write_linked<F: Files>(
     requires sources { AreReadable (F.state files.old).kept sources.now.first sources.now.second
         out.now }
     ensures { Makes (F.state files.old) (F.state files.new) out.now
-        (block.now ++ tail_told (F.state files.old).kept sources.now.first sources.now.second) (failure_of result) }
+        (block.now ++ tail_told (F.state files.old).kept sources.now.first sources.now.second lay.now.areas) (failure_of result) }
 {
     if let Err(_) = files.start(out) {
         return Err(FileFault::Write);
@@ -54,7 +54,7 @@ fn write_inputs<F: Files>(
         out.now }
     requires out { IsUnfinished (F.state files.old) out.now }
     ensures { Appends (F.state files.old) (F.state files.new) out.now
-        (tail_told (F.state files.old).kept sources.now.first sources.now.second) (failure_of result) }
+        (tail_told (F.state files.old).kept sources.now.first sources.now.second lay.now.areas) (failure_of result) }
 {
     let first = sources.first;
     let from = BLOCK as u64;

@@ -49,8 +49,8 @@ fn is_header_for(bytes: &[u8; EHDR_SIZE], machine: Machine) -> bool
     bytes.starts_with(b"\x7fELF\x02\x01") && le16(bytes, 18) == machine.number()
 }
 
-/// Whether the file begins as one of the format.
-pub(crate) fn has_magic(file: &[u8]) -> bool
+/// Whether the file begins with one of the format's texts: `MZqFpD='`, `jartsr='` or `APEDBG='`.
+pub fn has_magic(file: &[u8]) -> bool
     ensures { result ≡ spec.has_magic file.now }
 {
     file.starts_with(b"MZqFpD='") || file.starts_with(b"jartsr='") || file.starts_with(b"APEDBG='")

@@ -8,5 +8,5 @@ mod header; // the header that a file embeds
 mod fault; // why a file has no reading
 
 pub use fault::ApeFault;
-pub use header::embedded;
+pub use header::{embedded, has_magic};
 pub use reading::ApeReading;

@@ -24,10 +24,10 @@ spelt_digits v (c ∷ text) n e zero below = (spelt_first (is_digit c) (with_dig
 spelt_digits v (c ∷ text) n e (suc k) below = spelt_digits (v * 10 + (c - 48)) text n (spelt_first (is_digit c) (with_digits (v * 10 + (c - 48)) text) n e).1 k (omega (arith, below))
 
 -- digits stand from a place up to `end`, and none stands there
-record Runs (text : List ℕ) (from end : ℕ) : Type 0 where
-  low : from ≤ end
-  digits : (k : ℕ) → from ≤ k → k < end → is_digit (slice_index text k) ≡ true
-  ends : is_digit (slice_index text end) ≡ false
+pub record Runs (text : List ℕ) (from end : ℕ) : Type 0 where
+  pub low : from ≤ end
+  pub digits : (k : ℕ) → from ≤ k → k < end → is_digit (slice_index text k) ≡ true
+  pub ends : is_digit (slice_index text end) ≡ false
 
 runs_once : (text : List ℕ) (from e f : ℕ) → Runs text from e → Runs text from f → e ≡ f
 runs_once text from e f a b =
@@ -50,7 +50,7 @@ range_length text from end fits = let a = length-take (end - from) (drop from te
 short_spelt : (b : Bool) (text : List ℕ) (n : ℕ) → cond b (with_digits 0 text) None ≡ Some n → with_digits 0 text ≡ Some n
 short_spelt b text n e = (spelt_first b (with_digits 0 text) n e).1
 
-operand_runs : (text : List ℕ) (at : ℕ) (name : List ℕ) (n end : ℕ) → HasOperand text at name n end → Runs text (at + length name) end
+pub operand_runs : (text : List ℕ) (at : ℕ) (name : List ℕ) (n end : ℕ) → HasOperand text at name n end → Runs text (at + length name) end
 operand_runs text at name n end o =
     let from = at + length name in
     let range = slice_range text from end in
@@ -65,10 +65,10 @@ operand_runs text at name n end o =
 same_some : (x : Option ℕ) (n m : ℕ) → x ≡ Some n → x ≡ Some m → n ≡ m
 same_some x n m a b = let e : Some n ≡ Some m = sym a ∙ b in cc
 
-operand_end : (text : List ℕ) (at : ℕ) (name : List ℕ) (n m e f : ℕ) → HasOperand text at name n e → HasOperand text at name m f → e ≡ f
+pub operand_end : (text : List ℕ) (at : ℕ) (name : List ℕ) (n m e f : ℕ) → HasOperand text at name n e → HasOperand text at name m f → e ≡ f
 operand_end text at name n m e f a b = runs_once text (at + length name) e f (operand_runs text at name n e a) (operand_runs text at name m f b)
 
-operand_number : (text : List ℕ) (at : ℕ) (name : List ℕ) (n m e f : ℕ) → HasOperand text at name n e → HasOperand text at name m f → n ≡ m
+pub operand_number : (text : List ℕ) (at : ℕ) (name : List ℕ) (n m e f : ℕ) → HasOperand text at name n e → HasOperand text at name m f → n ≡ m
 operand_number text at name n m e f a b =
     same_some (short_number (slice_range text (at + length name) f)) n m
     (subst (λ k. short_number (slice_range text (at + length name) k) ≡ Some n) (operand_end text at name n m e f a b) a.spelt) b.spelt

@@ -9,3 +9,5 @@ pub mod KeptBytes
 pub mod EmbedLemmas
 pub mod DdOntoItself
 pub mod DdPlaces
+pub mod DdTexts
+pub mod DdOnce

@@ -1,7 +1,9 @@
 -- The `dd` statement of an APE file, which an assimilator looks for in the file's window (APE specification).
-use Rattle.std.specs.Prelude.{◌≡◌, ℕ, ◌+◌, ◌-◌, ◌*◌, ◌≤◌, ◌&&◌, nat_le, Bool, false, if◌then◌else◌, List, [], ◌∷◌, length, take, slice_index, slice_range, codes, Option, Some, None}
+use Rattle.std.specs.Prelude.{◌≡◌, ℕ, ◌+◌, ◌-◌, ◌*◌, ◌≤◌, ◌&&◌, nat_le, Bool, false, if◌then◌else◌, List, [], ◌∷◌, length, take, slice_index, slice_range, codes, Option, Some, None, MatchOption}
+use Rattle.memchr.specs.Find.{Nowhere, NoneBefore}
 use Rattle.ap_fields.specs.Bytes.{Holds}
 use Rattle.ap_fields.specs.declared.sizes.TheConstants.{WINDOW}
+use Rattle.ap_octal.specs.declared.types.DdStatement.{DdStatement}
 
 abbrev pub is_digit : ℕ → Bool
 is_digit c = nat_le 48 c && nat_le c 57
@@ -37,3 +39,11 @@ pub record StandsDd (text : List ℕ) (at size skip count : ℕ) : Type 0 where
 -- a `dd` statement stands at a place, wholly in the window
 abbrev pub HasDd : List ℕ → ℕ → Type 0
 HasDd file at = (size : ℕ) × (skip : ℕ) × (count : ℕ) × StandsDd (take WINDOW file) at size skip count
+
+-- a file's first `dd` statement
+abbrev pub FirstDd : List ℕ → DdStatement → Type 0
+FirstDd file s = NoneBefore (HasDd file) 0 WINDOW s.at × StandsDd (take WINDOW file) s.at s.size s.skip s.count
+
+-- it, or none
+abbrev pub IsDd : List ℕ → Option DdStatement → Type 0
+IsDd file dd = MatchOption dd (Nowhere (HasDd file) 0 WINDOW) (λ s. FirstDd file s)

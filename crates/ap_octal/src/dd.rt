@@ -1,9 +1,8 @@
 // The `dd` statement of a file.
-ghost use Rattle.std.specs.Prelude.{◌≡◌, ◌≤◌, ◌<◌, ◌+◌, ℕ, IsTrue, ◌↔◌, true, false, length, slice_index, MatchOption, take};
-ghost use Rattle.memchr.specs.Find.{Nowhere, NoneBefore};
+ghost use Rattle.std.specs.Prelude.{◌≡◌, ◌≤◌, ◌<◌, ◌+◌, ℕ, IsTrue, ◌↔◌, true, false, length, slice_index, MatchOption};
 ghost use Rattle.ap_fields.specs.Bytes.{Holds};
 ghost use Rattle.ap_octal.specs.DdPlace as place;
-ghost use Rattle.ap_octal.specs.DdPlace.{HasDd, HasOperand, StandsDd};
+ghost use Rattle.ap_octal.specs.DdPlace.{HasOperand, IsDd, StandsDd};
 
 use crate::search::window_of;
 use crate::types::DdStatement;
@@ -15,9 +14,7 @@ const MOST_DIGITS: usize = 9;
 /// The first place in the file's first 8192 bytes at which ` bs=B skip=S count=C conv=notrunc` stands wholly, with numbers
 /// of one to nine decimal digits, B at least 1, and these numbers. None exactly where it stands nowhere there.
 pub fn dd_statement(file: &[u8]) -> Option<DdStatement>
-    ensures { MatchOption result (Nowhere (HasDd file.now) 0 WINDOW)
-        (λ s. NoneBefore (HasDd file.now) 0 WINDOW s.at
-        × StandsDd (take WINDOW file.now) s.at s.size s.skip s.count) }
+    ensures { IsDd file.now result }
 {
     let window = window_of(file);
     for at in 0..window.len() {

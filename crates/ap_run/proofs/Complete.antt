@@ -9,21 +9,30 @@ use Rattle.ap_check.specs.declared.fault.Fault.{Fault}
 use Rattle.ap_check.proofs.Pairs.{first-breaks}
 use Rattle.ap_link.specs.FileAnswers.{HasSecond, AreUnread}
 use Rattle.ap_files.specs.Sinks.{SinkState}
-use Rattle.ap_run.specs.Words.{LinkNames, names_in, options_of}
-use Rattle.ap_run.specs.Options.{View, view_in}
-use Rattle.ap_run.specs.ScriptWords.{ScriptRun, script_in}
+use Rattle.ap_words.specs.declared.command.Command.{Command}
+use Rattle.ap_words.specs.declared.command.Command.TheVariants.{Link, Load, Map, Script, Assimilate, Inspect, Trial, Bind, Bundle, Stack, Audit}
+use Rattle.ap_words.specs.Meaning.{command_of}
+use Rattle.ap_run.specs.Links.{LinkNames, link_names, options_of}
+use Rattle.ap_run.specs.Views.{load_format, map_format}
+use Rattle.ap_run.specs.ScriptRuns.{ScriptRun}
 use Rattle.ap_run.specs.Scripted.{Scripted}
 use Rattle.ap_run.specs.Shows.{Ends, ShowsBy}
 use Rattle.ap_run.specs.Whole.{Telling}
 use Rattle.ap_run.specs.Dumps.{DumpEnds, dumped_in}
 use Rattle.ap_run.specs.declared.format.Format.{Format}
 use Rattle.ap_files.specs.Reads as reads
-use Rattle.ap_run.specs.Ends.{LinkEnds, LinkComplete, BothComplete, RefusedFor, ForSecond, AnswersBy, ViewAnswers, ViewEnds, EndsBy, RunEnds, CompleteBy, IsComplete, Stands}
+use Rattle.ap_run.specs.Ends.{LinkEnds, LinkComplete, BothComplete, RefusedFor, ForSecond, AnswersBy, ViewAnswers, ViewEnds, CommandEnds, EndsBy, RunEnds, CommandComplete, TrialComplete, MadeBy, CompleteBy, IsComplete, Stands}
 use Rattle.ap_run.specs.declared.end.ReadingFault.{ReadingFault}
 use Rattle.ap_run.specs.declared.end.Cause.{Cause}
-use Rattle.ap_run.specs.declared.end.Cause.TheVariants.{Done, Refused, Unread, Usage, ReadFault, WriteFault, OutFault, NoMemory}
+use Rattle.ap_run.specs.declared.end.Cause.TheVariants.{Done, Refused, Unread, Usage, Unbuilt, ReadFault, WriteFault, OutFault, NoMemory}
 use Rattle.ap_files.proofs.ReadLemmas.{some_same, not_some, told_of}
+use Rattle.ap_run.specs.Writes.{WriteEnds}
+use Rattle.ap_run.specs.Assimilates.{Assimilated}
+use Rattle.ap_run.specs.Trials.{TrialEnds}
 use Rattle.ap_run.proofs.Scripts.{one-answer}
+use Rattle.ap_run.proofs.Writing.{one-fault}
+use Rattle.ap_run.specs.Inspected.{Inspected}
+use Rattle.ap_run.proofs.Inspecting.{one-inspected}
 
 no_rise : (before now : ℕ) → Stands before now → Rose before now → ⊥
 no_rise before now s r = let a = s.0 in let b = s.1 in omega arith
@@ -73,6 +82,7 @@ first_by old new names (Refused f) m a h r w k g = elim (told_of old.kept names.
 ]
 first_by old new names (Unread f) m a h r w k g = absurd h
 first_by old new names Usage m a h r w k g = absurd h
+first_by old new names (Unbuilt word) m a h r w k g = absurd h
 first_by old new names ReadFault m a h r w k g = elim h [
   | inl unread ↦ not_refused (first_fault_of 1 a) ReadFault (unread_first old new names.first names.second m a unread r k g)
   | inr broken ↦ absurd (no_rise _ _ r broken.0.rose)
@@ -121,6 +131,7 @@ both_by old new names (Refused f) m a b h r w k g s = elim (told_of old.kept nam
 ]
 both_by old new names (Unread f) m a b h r w k g s = absurd h
 both_by old new names Usage m a b h r w k g s = absurd h
+both_by old new names (Unbuilt word) m a b h r w k g s = absurd h
 both_by old new names ReadFault m a b h r w k g s = absurd (elim h [
   | inl unread ↦ both_unread old new names.first names.second m a b unread r k g s
   | inr broken ↦ no_rise _ _ r broken.0.rose
@@ -157,6 +168,7 @@ shown_by old new before after P name ReadFault m b one h r k g = absurd (unread_
 shown_by old new before after P name NoMemory m b one h r k g = (λ f e. inr refl, λ t e s. inr refl)
 shown_by old new before after P name (Refused f) m b one h r k g = absurd h
 shown_by old new before after P name Usage m b one h r k g = absurd h
+shown_by old new before after P name (Unbuilt word) m b one h r k g = absurd h
 shown_by old new before after P name WriteFault m b one h r k g = absurd h
 
 dumped_so : (old new : FileState) (before after : SinkState) (format : Format) (name image : List ℕ) (cause : Cause) (m : FileMap) (b : List ℕ) → DumpEnds old new before after format name image cause
@@ -172,18 +184,61 @@ dumped_so old new before after format name image ReadFault m b h r w k g = absur
 dumped_so old new before after format name image NoMemory m b h r w k g = (λ f e. inr refl, λ t e s. inr refl)
 dumped_so old new before after format name image (Refused f) m b h r w k g = absurd h
 dumped_so old new before after format name image Usage m b h r w k g = absurd h
+dumped_so old new before after format name image (Unbuilt word) m b h r w k g = absurd h
+
+-- a file is refused for one fault at most, and is not refused where something is made of it
+abbrev HasOneFault : Telling → List ℕ → Type 0
+HasOneFault P b = ((f g : ReadingFault) → P b (Err f) → P b (Err g) → f ≡ g) × ((f : ReadingFault) (t : List ℕ) → P b (Err f) → P b (Ok t) → ⊥)
+
+made_by : (old new : FileState) (P : Telling) (name out : List ℕ) (cause : Cause) (m : FileMap) (b : List ℕ) → HasOneFault P b
+    → WriteEnds old new P name out cause → Stands old.read_faults new.read_faults → Stands old.write_faults new.write_faults → old.kept ≡ Some m → map.get m name ≡ Some b → MadeBy cause (P b)
+made_by old new P name out Done m b one h r w k g =
+    let made = told_of old.kept name m b h.2 k g in (λ f e. absurd (one.1 f h.0 e made), λ t e. inl refl)
+made_by old new P name out WriteFault m b one h r w k g = absurd (no_rise _ _ w h.1.1.rose)
+made_by old new P name out (Unread f) m b one h r w k g =
+    let made = told_of old.kept name m b h.1 k g in (λ f' e. inl (ap (λ x. Unread x) (one.0 f f' made e)), λ t e. absurd (one.1 f t made e))
+made_by old new P name out ReadFault m b one h r w k g = absurd (unread_by old new name m b h r k g)
+made_by old new P name out NoMemory m b one h r w k g = (λ f e. inr refl, λ t e. inr refl)
+made_by old new P name out (Refused f) m b one h r w k g = absurd h
+made_by old new P name out Usage m b one h r w k g = absurd h
+made_by old new P name out (Unbuilt x) m b one h r w k g = absurd h
+made_by old new P name out OutFault m b one h r w k g = absurd h
 
 view_by : (old new : FileState) (before after : SinkState) (format : Format) (name : List ℕ) (dump : Option (List ℕ)) (cause : Cause) (m : FileMap) (b : List ℕ) → ViewEnds old new before after format name dump cause
     → Stands old.read_faults new.read_faults → Stands old.write_faults new.write_faults → old.kept ≡ Some m → map.get m name ≡ Some b → ViewAnswers before after cause format dump b
 view_by old new before after format name None cause m b h r w k g = shown_by old new before after (ShowsBy format) name cause m b (λ x y e e'. sym e ∙ e') h r k g
 view_by old new before after format name (Some image) cause m b h r w k g = dumped_so old new before after format name image cause m b h r w k g
 
-complete_by : (old new : FileState) (before after : SinkState) (names : Option LinkNames) (view : Option View) (run : Option ScriptRun) (cause : Cause) → EndsBy old new before after names view run cause
-    → CompleteBy old new before after names view run cause
-complete_by old new before after (Some names) view run cause h = link_by old new names cause h.0
-complete_by old new before after None (Some view) run cause h = λ r w m b k g. view_by old new before after view.format view.file view.dump cause m b h r w k g
-complete_by old new before after None None (Some run) cause h = λ r w m b k g. shown_by old new before after (Scripted run) run.file cause m b (one-answer run b) h r k g
-complete_by old new before after None None None cause h = tt
+trial_by : (before after : SinkState) (number pages : ℕ) (cause : Cause) → TrialEnds before after number pages cause → TrialComplete before after cause
+trial_by before after number pages Done h s = inl refl
+trial_by before after number pages OutFault h s = absurd (no_rise _ _ s h.2.rose)
+trial_by before after number pages NoMemory h s = inr refl
+trial_by before after number pages (Refused fault) h s = absurd h.2
+trial_by before after number pages (Unread fault) h s = absurd h.2
+trial_by before after number pages Usage h s = absurd h.2
+trial_by before after number pages (Unbuilt word) h s = absurd h.2
+trial_by before after number pages ReadFault h s = absurd h.2
+trial_by before after number pages WriteFault h s = absurd h.2
+
+-- what each command answers
+command_by : (old new : FileState) (before after : SinkState) (command : Command) (cause : Cause) → CommandEnds old new before after command cause → CommandComplete old new before after command cause
+command_by old new before after (Link out options names) cause h = link_by old new (link_names out options names) cause h.0
+command_by old new before after (Load machine page dump file) cause h = λ r w m b k g. view_by old new before after (load_format machine page) file dump cause m b h r w k g
+command_by old new before after (Map form machine page imports file) cause h = λ r w m b k g. view_by old new before after (map_format form machine page imports) file None cause m b h r w k g
+command_by old new before after (Script system machine ape nul file) cause h = λ r w m b k g.
+    let run : ScriptRun = record { system = system; machine = machine; ape = ape; nul = nul; file = file } in
+    shown_by old new before after (Scripted run) file cause m b (one-answer run b) h r k g
+command_by old new before after (Assimilate form machine out file) cause h = λ r w m b k g. made_by old new (Assimilated form machine) file out cause m b (one-fault form machine b) h.0 r w k g
+command_by old new before after (Inspect file) cause h = λ r w m b k g. shown_by old new before after Inspected file cause m b (one-inspected b) h r k g
+command_by old new before after (Trial number pages) cause h = trial_by before after number pages cause h.1
+command_by old new before after (Bind base out file) cause h = tt
+command_by old new before after (Bundle out app x64 a64) cause h = tt
+command_by old new before after (Stack machine page out file words) cause h = tt
+command_by old new before after (Audit file) cause h = tt
+
+complete_by : (old new : FileState) (before after : SinkState) (command : Option Command) (cause : Cause) → EndsBy old new before after command cause → CompleteBy old new before after command cause
+complete_by old new before after (Some command) cause h = command_by old new before after command cause h
+complete_by old new before after None cause h = tt
 
 pub complete : (old new : FileState) (before after : SinkState) (words : List (List ℕ)) (cause : Cause) → RunEnds old new before after words cause → IsComplete old new before after words cause
-complete old new before after words cause h = complete_by old new before after (names_in words) (view_in words) (script_in words) cause h
+complete old new before after words cause h = complete_by old new before after (command_of words) cause h

@@ -1,80 +1,137 @@
 -- How a file is dumped, step by step.
-use Rattle.std.proofs.Common.{◌≡◌, inl, ℕ, ◌^◌, ◌<◌, Bool, true, false, cond, List, length, Some, Result, Ok, Err, refl, sym, ap, ◌∙◌, subst, arith}
+use Rattle.std.proofs.Common.{◌≡◌, inl, ℕ, ◌^◌, ◌<◌, ◌≤◌, true, false, cond, List, length, Vec, Some, Result, Ok, Err, refl, sym, ap, ◌∙◌, subst, arith}
 use Rattle.std.specs.Prelude.{nat_lt}
+use Rattle.std.specs.declared.alloc.Global.{Global}
 use Rattle.std.proofs.lemmas.Bool.Decides.{nat_tests}
 use Rattle.ap_fields.specs.Readings.{bytes_in}
 use Rattle.ap_files.specs.Files.{FileState}
 use Rattle.ap_files.specs.Sinks.{SinkState}
 use Rattle.ap_files.specs.Reads as reads
-use Rattle.ap_files.specs.Reads.{HasFile, ReadFails}
+use Rattle.ap_files.specs.Reads.{HasFile, HasSize, ReadFails}
 use Rattle.ap_files.specs.Appends.{IsMade, Makes}
 use Rattle.ap_files.specs.declared.failure.FileFault.TheVariants.{Write}
-use Rattle.ap_files.proofs.ReadLemmas.{told_of}
-use Rattle.ap_image.specs.Plans.{Mapping}
-use Rattle.ap_image.specs.ImageFiles.{total_of, image_file}
+use Rattle.ap_image.specs.Plans.{Mapping, Imaged}
+use Rattle.ap_image.specs.ImageFiles.{total_of, front_of, image_file}
 use Rattle.ap_run.specs.declared.end.ReadingFault.{ReadingFault}
 use Rattle.ap_run.specs.declared.end.ReadingFault.TheVariants as fault
 use Rattle.ap_run.specs.declared.end.Cause.{Cause}
-use Rattle.ap_run.specs.declared.end.Cause.TheVariants.{Done, Refused, Unread, Usage, ReadFault, WriteFault, OutFault, NoMemory}
+use Rattle.ap_run.specs.declared.end.Cause.TheVariants.{Done, Refused, Unread, Usage, Unbuilt, ReadFault, WriteFault, OutFault, NoMemory}
 use Rattle.ap_run.specs.declared.format.Format.{Format}
 use Rattle.ap_run.specs.declared.dump.Parts.{Parts}
-use Rattle.ap_run.specs.declared.planned.Planned.{Planned}
-use Rattle.ap_run.specs.PlanTexts.{plan_text}
+use Rattle.ap_texts.specs.PlanTexts.{plan_text}
 use Rattle.ap_run.specs.Formats.{plan_in}
-use Rattle.ap_run.specs.FilePlans.{sized_plan_in, IsPlanned, Plans}
+use Rattle.ap_run.specs.Fetches.{Measured}
 use Rattle.ap_run.specs.Shows.{Printed}
-use Rattle.ap_run.specs.Dumps.{Dumped, dumped_by, dumped_in, dumped_as, IsDumped, DumpEnds, PartsAnswer, MakesParts}
+use Rattle.ap_run.specs.Dumps.{Dumped, dumped_by, dumped_in, dumped_as, IsDumped, DumpEnds, Fetches, ArePartsOf, MakesParts}
 
-by-size : (large : Bool) (f : ReadingFault) (b : List ℕ) (plan : Result Mapping ReadingFault) → cond large (Err f) (dumped_by b plan) ≡ dumped_by b (cond large (Err f) plan)
-by-size true f b plan = refl
-by-size false f b plan = refl
+-- a file that isn't longer than 2^30 bytes, and one that is
+dumped-small : (format : Format) (b : List ℕ) → length b ≤ 2 ^ 30 → dumped_in format b ≡ dumped_by b (plan_in format b)
+unfolding dumped_in
+dumped-small format b small =
+    let f : nat_lt (2 ^ 30) (length b) ≡ false = grind (arith, nat_tests) in
+    ap (λ t. cond t (Err (fault.Large (length b))) (dumped_by b (plan_in format b))) f
 
-dumped_in-plan : (format : Format) (b : List ℕ) → dumped_in format b ≡ dumped_by b (sized_plan_in format b)
-unfolding dumped_in sized_plan_in
-dumped_in-plan format b = by-size (nat_lt (2 ^ 30) (length b)) (fault.Large (length b)) b (plan_in format b)
+dumped-large : (format : Format) (b : List ℕ) → 2 ^ 30 < length b → dumped_in format b ≡ Err (fault.Large (length b))
+unfolding dumped_in
+dumped-large format b large =
+    let f : nat_lt (2 ^ 30) (length b) ≡ true = grind (arith, nat_tests) in
+    ap (λ t. cond t (Err (fault.Large (length b))) (dumped_by b (plan_in format b))) f
 
 dumped-wide : (b : List ℕ) (m : Mapping) (total : ℕ) → total ≡ total_of m.regions → 2 ^ 30 < total → dumped_by b (Ok m) ≡ Err (fault.Wide total)
 dumped-wide b m total is wide =
     let f : nat_lt (2 ^ 30) (total_of m.regions) ≡ true = grind (arith, nat_tests) in
     ap (λ t. cond t (Err (fault.Wide (total_of m.regions))) (Ok (record { image = image_file (bytes_in b) m; text = plan_text m }))) f ∙ ap (λ n. Err (fault.Wide n)) (sym is)
 
-pub parts-refused : (old new : FileState) (format : Format) (name : List ℕ) (cause : Cause) → Plans old new format name (Err cause) → PartsAnswer old new format name (Err cause)
-parts-refused old new format name (Unread f) h = (h.0, λ m k. let t = h.1 m k in (t.0, t.1, dumped_in-plan format t.0 ∙ ap (dumped_by t.0) t.2))
-parts-refused old new format name ReadFault h = h
-parts-refused old new format name Done h = absurd h
-parts-refused old new format name (Refused f) h = absurd h
-parts-refused old new format name Usage h = absurd h
-parts-refused old new format name WriteFault h = absurd h
-parts-refused old new format name OutFault h = absurd h
-parts-refused old new format name NoMemory h = absurd h
+dumped-narrow : (b : List ℕ) (m : Mapping) → total_of m.regions ≤ 2 ^ 30 → dumped_by b (Ok m) ≡ Ok (record { image = image_file (bytes_in b) m; text = plan_text m })
+dumped-narrow b m narrow =
+    let f : nat_lt (2 ^ 30) (total_of m.regions) ≡ false = grind (arith, nat_tests) in
+    ap (λ t. cond t (Err (fault.Wide (total_of m.regions))) (Ok (record { image = image_file (bytes_in b) m; text = plan_text m }))) f
 
-pub parts-wide : (old new : FileState) (format : Format) (name : List ℕ) (planned : Planned) (total : ℕ) → Plans old new format name (Ok planned) → total ≡ total_of planned.plan.regions → 2 ^ 30 < total
-    → PartsAnswer old new format name (Err (Unread (fault.Wide total)))
-parts-wide old new format name planned total h is wide =
-    (h.0, λ m k. let t = h.2 m k in (t.0, t.1, dumped_in-plan format t.0 ∙ ap (dumped_by t.0) t.2 ∙ dumped-wide t.0 planned.plan total is wide))
+-- a file that isn't read
+pub unmeasured : (old new : FileState) (name : List ℕ) (cause : Cause) → Measured old new name (Err cause) → Fetches old new name (Err cause)
+unmeasured old new name (Unread (fault.Large size)) h = (h.0, λ m k. let t = h.2 m k in (t.0, t.1, ((let l = h.1 in let e = t.2 in omega arith), ap (λ n. fault.Large n) t.2)))
+unmeasured old new name (Unread (fault.Wide total)) h = absurd h
+unmeasured old new name (Unread (fault.Elf f)) h = absurd h
+unmeasured old new name (Unread (fault.Ape f)) h = absurd h
+unmeasured old new name (Unread (fault.Pe f)) h = absurd h
+unmeasured old new name (Unread (fault.Mach f)) h = absurd h
+unmeasured old new name (Unread (fault.Walk f)) h = absurd h
+unmeasured old new name (Unread (fault.Shell at)) h = absurd h
+unmeasured old new name (Unread fault.NotApe) h = absurd h
+unmeasured old new name (Unread fault.NoStatement) h = absurd h
+unmeasured old new name ReadFault h = h
+unmeasured old new name Done h = absurd h
+unmeasured old new name (Refused f) h = absurd h
+unmeasured old new name Usage h = absurd h
+unmeasured old new name (Unbuilt word) h = absurd h
+unmeasured old new name WriteFault h = absurd h
+unmeasured old new name OutFault h = absurd h
+unmeasured old new name NoMemory h = absurd h
 
-is-dumped : (old mid : FileState) (format : Format) (name bytes : List ℕ) (plan : Mapping) (d : Result Dumped ReadingFault) → mid ≡ old → IsPlanned old format name (Ok plan) → HasFile mid.kept name (λ b. bytes ≡ b)
-    → dumped_by bytes (Ok plan) ≡ d → IsDumped old format name d
-is-dumped old mid format name bytes plan d same planned has is m k =
-    let t = planned m k in
-    let whole = told_of mid.kept name m t.0 has (ap (λ (s : FileState). s.kept) same ∙ k) t.1 in
-    (t.0, t.1, dumped_in-plan format t.0 ∙ ap (dumped_by t.0) t.2 ∙ ap (λ b. dumped_by b (Ok plan)) (sym whole) ∙ is)
+pub fetched : (old mid new : FileState) (name : List ℕ) (size : ℕ) (bytes : Vec ℕ Global) → (mid ≡ old) × (size ≤ 2 ^ 30) × HasSize old.kept name size → (new ≡ mid) × HasFile mid.kept name (λ b. bytes.items ≡ b)
+    → length bytes.items ≡ size → Fetches old new name (Ok bytes)
+fetched old mid new name size bytes h f long = (
+  f.0 ∙ h.0,
+  (let l = h.1 in omega arith),
+  subst (λ (s : FileState). HasFile s.kept name (λ b. bytes.items ≡ b)) h.0 f.1,
+)
 
-pub parts-made : (old mid new : FileState) (format : Format) (name bytes : List ℕ) (planned : Planned) (r : Result Parts Cause) → Plans old mid format name (Ok planned)
-    → (new ≡ mid) × HasFile mid.kept name (λ b. bytes ≡ b) → MakesParts planned.plan bytes r → PartsAnswer old new format name r
-parts-made old mid new format name bytes planned (Ok parts) h f m = (f.0 ∙ h.0, is-dumped old mid format name bytes planned.plan (Ok (dumped_as parts)) h.0 h.2 f.1 m)
-parts-made old mid new format name bytes planned (Err (Unread g)) h f m = (f.0 ∙ h.0, is-dumped old mid format name bytes planned.plan (Err g) h.0 h.2 f.1 m)
-parts-made old mid new format name bytes planned (Err NoMemory) h f m = f.0 ∙ h.0
-parts-made old mid new format name bytes planned (Err Done) h f m = absurd m
-parts-made old mid new format name bytes planned (Err (Refused g)) h f m = absurd m
-parts-made old mid new format name bytes planned (Err Usage) h f m = absurd m
-parts-made old mid new format name bytes planned (Err ReadFault) h f m = absurd m
-parts-made old mid new format name bytes planned (Err WriteFault) h f m = absurd m
-parts-made old mid new format name bytes planned (Err OutFault) h f m = absurd m
+pub not-fetched : (old mid new : FileState) (name : List ℕ) → mid ≡ old → ReadFails mid new → Fetches old new name (Err ReadFault)
+not-fetched old mid new name same f = subst (λ s. reads.Unread s new name) same (record { files = f.files; write_faults = f.write_faults; cause = inl f.rose })
 
-pub parts-unread : (old mid new : FileState) (format : Format) (name : List ℕ) (planned : Planned) → Plans old mid format name (Ok planned) → ReadFails mid new → PartsAnswer old new format name (Err ReadFault)
-parts-unread old mid new format name planned h f =
-    subst (λ s. reads.Unread s new name) h.0 (record { files = f.files; write_faults = f.write_faults; cause = inl f.rose })
+-- what is made of the bytes
+pub parts-refused : (format : Format) (b : List ℕ) (f : ReadingFault) → Err f ≡ plan_in format b → MakesParts format b (Err (Unread f))
+parts-refused format b f is = ap (dumped_by b) (sym is)
+
+pub parts-wide : (format : Format) (b : List ℕ) (m : Mapping) (total : ℕ) → Ok m ≡ plan_in format b → total ≡ total_of m.regions → 2 ^ 30 < total → MakesParts format b (Err (Unread (fault.Wide total)))
+parts-wide format b m total is sum wide = ap (dumped_by b) (sym is) ∙ dumped-wide b m total sum wide
+
+pub parts-made : (format : Format) (b : List ℕ) (m : Mapping) (total : ℕ) (image : Imaged) (parts : Parts) → Ok m ≡ plan_in format b → total ≡ total_of m.regions → total ≤ 2 ^ 30 → image ≡ record { plan = m; file = b }
+    → ArePartsOf image parts → MakesParts format b (Ok parts)
+parts-made format b m total image parts is sum narrow same made =
+    let whole : parts.image ≡ record { plan = m; file = b } = made.image ∙ same in (
+      ap (dumped_by b) (sym is)
+          ∙ dumped-narrow b m (omega arith)
+          ∙ ap (λ (i : Imaged). Ok (record { image = image_file (bytes_in i.file) i.plan; text = plan_text i.plan })) (sym whole)
+          ∙ ap (λ t. Ok (record { image = image_file (bytes_in parts.image.file) parts.image.plan; text = t })) (sym (made.text ∙ ap (λ (i : Imaged). plan_text i.plan) (sym made.image))),
+      made.front ∙ ap (λ (i : Imaged). front_of i.plan) (sym made.image),
+    )
+
+-- ---- the ends
+
+pub dump-unread : (old new : FileState) (sink : SinkState) (format : Format) (name image : List ℕ) (cause : Cause) → Fetches old new name (Err cause) → DumpEnds old new sink sink format name image cause
+dump-unread old new sink format name image (Unread f) h =
+    (h.0, refl, λ m k. let t = h.1 m k in (t.0, t.1, dumped-large format t.0 t.2.0 ∙ ap Err (sym t.2.1)))
+dump-unread old new sink format name image ReadFault h = (h, refl)
+dump-unread old new sink format name image NoMemory h = (h, refl)
+dump-unread old new sink format name image Done h = absurd h
+dump-unread old new sink format name image (Refused f) h = absurd h
+dump-unread old new sink format name image Usage h = absurd h
+dump-unread old new sink format name image (Unbuilt word) h = absurd h
+dump-unread old new sink format name image WriteFault h = absurd h
+dump-unread old new sink format name image OutFault h = absurd h
+
+is-dumped : (old new : FileState) (format : Format) (name : List ℕ) (bytes : Vec ℕ Global) (d : Result Dumped ReadingFault) → Fetches old new name (Ok bytes) → dumped_by bytes.items (plan_in format bytes.items) ≡ d
+    → IsDumped old format name d
+is-dumped old new format name bytes d h is m k =
+    let t = h.2 m k in
+    (t.0, t.1, ap (dumped_in format) (sym t.2) ∙ dumped-small format bytes.items h.1 ∙ is)
+
+pub dump-refused : (old new : FileState) (sink : SinkState) (format : Format) (name image : List ℕ) (bytes : Vec ℕ Global) (cause : Cause) → Fetches old new name (Ok bytes) → MakesParts format bytes.items (Err cause)
+    → DumpEnds old new sink sink format name image cause
+dump-refused old new sink format name image bytes (Unread f) h m = (h.0, refl, is-dumped old new format name bytes (Err f) h m)
+dump-refused old new sink format name image bytes NoMemory h m = (h.0, refl)
+dump-refused old new sink format name image bytes ReadFault h m = absurd m
+dump-refused old new sink format name image bytes Done h m = absurd m
+dump-refused old new sink format name image bytes (Refused f) h m = absurd m
+dump-refused old new sink format name image bytes Usage h m = absurd m
+dump-refused old new sink format name image bytes (Unbuilt word) h m = absurd m
+dump-refused old new sink format name image bytes WriteFault h m = absurd m
+dump-refused old new sink format name image bytes OutFault h m = absurd m
+
+pub dumped-parts : (old new : FileState) (format : Format) (name : List ℕ) (bytes : Vec ℕ Global) (parts : Parts) → Fetches old new name (Ok bytes) → MakesParts format bytes.items (Ok parts)
+    → (new ≡ old) × IsDumped old format name (Ok (dumped_as parts))
+dumped-parts old new format name bytes parts h m = (h.0, is-dumped old new format name bytes (Ok (dumped_as parts)) h m.0)
 
 pub dump-printed : (old mid new : FileState) (before after : SinkState) (format : Format) (name image : List ℕ) (d : Dumped) (cause : Cause) → (mid ≡ old) × IsDumped old format name (Ok d)
     → IsMade mid new image d.image → Printed before after d.text cause → DumpEnds old new before after format name image cause
@@ -83,6 +140,7 @@ dump-printed old mid new before after format name image d OutFault h s p = (d, s
 dump-printed old mid new before after format name image d (Refused f) h s p = absurd p
 dump-printed old mid new before after format name image d (Unread f) h s p = absurd p
 dump-printed old mid new before after format name image d Usage h s p = absurd p
+dump-printed old mid new before after format name image d (Unbuilt word) h s p = absurd p
 dump-printed old mid new before after format name image d ReadFault h s p = absurd p
 dump-printed old mid new before after format name image d WriteFault h s p = absurd p
 dump-printed old mid new before after format name image d NoMemory h s p = absurd p

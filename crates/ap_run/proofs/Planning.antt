@@ -8,7 +8,7 @@ use Rattle.ap_image.specs.Plans.{Mapping}
 use Rattle.ap_run.specs.declared.end.ReadingFault.{ReadingFault}
 use Rattle.ap_run.specs.declared.end.ReadingFault.TheVariants as fault
 use Rattle.ap_run.specs.declared.end.Cause.{Cause}
-use Rattle.ap_run.specs.declared.end.Cause.TheVariants.{Done, Refused, Unread, Usage, ReadFault, WriteFault, OutFault, NoMemory}
+use Rattle.ap_run.specs.declared.end.Cause.TheVariants.{Done, Refused, Unread, Usage, Unbuilt, ReadFault, WriteFault, OutFault, NoMemory}
 use Rattle.ap_run.specs.declared.format.Format.{Format}
 use Rattle.ap_run.specs.Fetches.{Measured}
 use Rattle.ap_run.specs.Formats.{plan_in}
@@ -36,10 +36,13 @@ plans-unmeasured old new format name (Unread (fault.Pe f)) h = absurd h
 plans-unmeasured old new format name (Unread (fault.Mach f)) h = absurd h
 plans-unmeasured old new format name (Unread (fault.Walk f)) h = absurd h
 plans-unmeasured old new format name (Unread (fault.Shell at)) h = absurd h
+plans-unmeasured old new format name (Unread fault.NotApe) h = absurd h
+plans-unmeasured old new format name (Unread fault.NoStatement) h = absurd h
 plans-unmeasured old new format name ReadFault h = h
 plans-unmeasured old new format name Done h = absurd h
 plans-unmeasured old new format name (Refused f) h = absurd h
 plans-unmeasured old new format name Usage h = absurd h
+plans-unmeasured old new format name (Unbuilt word) h = absurd h
 plans-unmeasured old new format name WriteFault h = absurd h
 plans-unmeasured old new format name OutFault h = absurd h
 plans-unmeasured old new format name NoMemory h = absurd h

@@ -7,7 +7,7 @@ use Rattle.ap_files.proofs.ReadLemmas.{told_of}
 use Rattle.ap_run.specs.declared.end.ReadingFault.{ReadingFault}
 use Rattle.ap_run.specs.declared.end.ReadingFault.TheVariants as fault
 use Rattle.ap_run.specs.declared.end.Cause.{Cause}
-use Rattle.ap_run.specs.declared.end.Cause.TheVariants.{Done, Refused, Unread, Usage, ReadFault, WriteFault, OutFault, NoMemory}
+use Rattle.ap_run.specs.declared.end.Cause.TheVariants.{Done, Refused, Unread, Usage, Unbuilt, ReadFault, WriteFault, OutFault, NoMemory}
 use Rattle.ap_run.specs.Fetches.{Measured}
 use Rattle.ap_run.specs.Shows.{Answers, IsShown}
 use Rattle.ap_run.specs.Whole.{MakesOf, Sized, Telling}
@@ -28,10 +28,13 @@ whole-unmeasured old new P name (Unread (fault.Pe f)) h = absurd h
 whole-unmeasured old new P name (Unread (fault.Mach f)) h = absurd h
 whole-unmeasured old new P name (Unread (fault.Walk f)) h = absurd h
 whole-unmeasured old new P name (Unread (fault.Shell at)) h = absurd h
+whole-unmeasured old new P name (Unread fault.NotApe) h = absurd h
+whole-unmeasured old new P name (Unread fault.NoStatement) h = absurd h
 whole-unmeasured old new P name ReadFault h = h
 whole-unmeasured old new P name Done h = absurd h
 whole-unmeasured old new P name (Refused f) h = absurd h
 whole-unmeasured old new P name Usage h = absurd h
+whole-unmeasured old new P name (Unbuilt word) h = absurd h
 whole-unmeasured old new P name WriteFault h = absurd h
 whole-unmeasured old new P name OutFault h = absurd h
 whole-unmeasured old new P name NoMemory h = absurd h
@@ -53,6 +56,7 @@ whole-read old mid new P name bytes size (Err NoMemory) h f is = f.0 ∙ h.0
 whole-read old mid new P name bytes size (Err Done) h f is = absurd is
 whole-read old mid new P name bytes size (Err (Refused g)) h f is = absurd is
 whole-read old mid new P name bytes size (Err Usage) h f is = absurd is
+whole-read old mid new P name bytes size (Err (Unbuilt word)) h f is = absurd is
 whole-read old mid new P name bytes size (Err ReadFault) h f is = absurd is
 whole-read old mid new P name bytes size (Err WriteFault) h f is = absurd is
 whole-read old mid new P name bytes size (Err OutFault) h f is = absurd is

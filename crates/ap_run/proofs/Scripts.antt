@@ -20,7 +20,7 @@ use Rattle.ap_shell.specs.declared.types.Outcome.{Outcome}
 use Rattle.ap_run.specs.declared.end.ReadingFault.{ReadingFault}
 use Rattle.ap_run.specs.declared.end.ReadingFault.TheVariants as fault
 use Rattle.ap_run.specs.Outcomes.{outcome_text}
-use Rattle.ap_run.specs.ScriptWords.{ScriptRun}
+use Rattle.ap_run.specs.ScriptRuns.{ScriptRun}
 use Rattle.ap_run.specs.Scripted.{Answered, RunsTo, Scripted, env_of, host_of}
 
 one-place : (n : Nul) (t : List ℕ) (a b : ℕ) → IsOutside n t a → IsOutside n t b → a ≡ b

@@ -10,7 +10,7 @@ use Rattle.ap_image.specs.Plans.{Mapping}
 use Rattle.ap_run.specs.declared.end.ReadingFault.{ReadingFault}
 use Rattle.ap_run.specs.declared.end.ReadingFault.TheVariants as fault
 use Rattle.ap_run.specs.declared.end.Cause.{Cause}
-use Rattle.ap_run.specs.declared.end.Cause.TheVariants.{Done, Refused, Unread, Usage, ReadFault, WriteFault, OutFault, NoMemory}
+use Rattle.ap_run.specs.declared.end.Cause.TheVariants.{Done, Refused, Unread, Usage, Unbuilt, ReadFault, WriteFault, OutFault, NoMemory}
 use Rattle.ap_run.specs.declared.format.Format.{Format}
 use Rattle.ap_run.specs.declared.planned.Planned.{Planned}
 use Rattle.ap_run.specs.Formats.{plan_in, listing, text_of, text_in}
@@ -54,6 +54,7 @@ answers-listed old new format name (Err NoMemory) imports h = h
 answers-listed old new format name (Err Done) imports h = absurd h
 answers-listed old new format name (Err (Refused f)) imports h = absurd h
 answers-listed old new format name (Err Usage) imports h = absurd h
+answers-listed old new format name (Err (Unbuilt word)) imports h = absurd h
 answers-listed old new format name (Err WriteFault) imports h = absurd h
 answers-listed old new format name (Err OutFault) imports h = absurd h
 
@@ -63,6 +64,7 @@ answers-refused old new format name ReadFault plain h = h
 answers-refused old new format name Done plain h = absurd h
 answers-refused old new format name (Refused f) plain h = absurd h
 answers-refused old new format name Usage plain h = absurd h
+answers-refused old new format name (Unbuilt word) plain h = absurd h
 answers-refused old new format name WriteFault plain h = absurd h
 answers-refused old new format name OutFault plain h = absurd h
 answers-refused old new format name NoMemory plain h = absurd h
@@ -74,6 +76,7 @@ answers-made old new format name planned (Err (Unread f)) plain h m = absurd m
 answers-made old new format name planned (Err Done) plain h m = absurd m
 answers-made old new format name planned (Err (Refused f)) plain h m = absurd m
 answers-made old new format name planned (Err Usage) plain h m = absurd m
+answers-made old new format name planned (Err (Unbuilt word)) plain h m = absurd m
 answers-made old new format name planned (Err ReadFault) plain h m = absurd m
 answers-made old new format name planned (Err WriteFault) plain h m = absurd m
 answers-made old new format name planned (Err OutFault) plain h m = absurd m
@@ -85,6 +88,7 @@ ends-printed old new before after P name text OutFault h p = (h.0, (text, p, h.1
 ends-printed old new before after P name text (Refused f) h p = absurd p
 ends-printed old new before after P name text (Unread f) h p = absurd p
 ends-printed old new before after P name text Usage h p = absurd p
+ends-printed old new before after P name text (Unbuilt word) h p = absurd p
 ends-printed old new before after P name text ReadFault h p = absurd p
 ends-printed old new before after P name text WriteFault h p = absurd p
 ends-printed old new before after P name text NoMemory h p = absurd p
@@ -96,5 +100,6 @@ ends-bare old new sink P name NoMemory h = (h, refl)
 ends-bare old new sink P name Done h = absurd h
 ends-bare old new sink P name (Refused f) h = absurd h
 ends-bare old new sink P name Usage h = absurd h
+ends-bare old new sink P name (Unbuilt word) h = absurd h
 ends-bare old new sink P name WriteFault h = absurd h
 ends-bare old new sink P name OutFault h = absurd h

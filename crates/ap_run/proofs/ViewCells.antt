@@ -1,13 +1,13 @@
 -- The plan of a file, by the format of a command's words, shows what the format's reading says.
-use Rattle.std.proofs.Common.{◌≡◌, ℕ, Bool, true, List, [], ◌∷◌, Option, Some, None, Result, Ok, Err, ap, subst, inl, inr, arith}
-use Rattle.std.specs.Prelude.{IfSome, ◌==◌, unwrap_or}
-use Rattle.std.specs.Option.{option_map, option_and_then}
+use Rattle.std.proofs.Common.{◌≡◌, ℕ, Bool, true, false, List, [], ◌∷◌, Option, Some, None, Result, Ok, Err, refl, sym, ap, subst, ◌∙◌, inl, inr, arith}
+use Rattle.std.specs.Prelude.{◌==◌, ◌&&◌}
+use Rattle.std.specs.Option.{option_and_then}
 use Rattle.std.proofs.lemmas.Bool.Decides.{nat_tests}
 use Rattle.std.proofs.lemmas.Bool.{cases_Bool}
 use Rattle.ap_fields.specs.Readings.{MemoryImage}
 use Rattle.ap_elf.specs.declared.machine.Machine.{Machine}
 use Rattle.ap_elf.specs.declared.machine.Machine.TheVariants.{X64, A64}
-use Rattle.ap_elf.specs.Machines.{number_of, granule_of}
+use Rattle.ap_elf.specs.Machines.{number_of}
 use Rattle.ap_elf.specs.declared.fault.ElfFault.{ElfFault}
 use Rattle.ap_elf.specs.ElfReading.{elf_reading}
 use Rattle.ap_elf.specs.Fields.{header_of, entries_of}
@@ -31,9 +31,15 @@ use Rattle.ap_run.specs.declared.end.ReadingFault.TheVariants as fault
 use Rattle.ap_run.specs.declared.format.Form.{Form}
 use Rattle.ap_run.specs.declared.format.Form.TheVariants.{Ape, Elf, Mach, Pe}
 use Rattle.ap_run.specs.declared.format.Format.{Format}
-use Rattle.ap_run.specs.declared.options.Options.{Options}
-use Rattle.ap_run.specs.Formats.{has_page, by_ape, by_elf, by_mach, by_pe, plan_in, plan_by_form, reading_in, reading_by_form}
-use Rattle.ap_run.specs.Options.{View, Given, no_options, form_of, imports_fit, format_with, format_of, dump_fits, view_of, given_in, view_in}
+use Rattle.ap_words.specs.declared.command.Command.{Command}
+use Rattle.ap_words.specs.declared.command.Command.TheVariants.{Link, Load, Map, Script, Assimilate, Inspect, Trial, Bind, Bundle, Stack, Audit}
+use Rattle.ap_words.specs.declared.command.Form.{Form as WordsForm}
+use Rattle.ap_words.specs.declared.word.Word.{Word}
+use Rattle.ap_words.specs.Names.{has_page, word_named}
+use Rattle.ap_words.specs.Conditions.{conditions_are_met}
+use Rattle.ap_words.specs.Meaning.{asked, command_of, kept}
+use Rattle.ap_run.specs.Views.{format_of, load_format, map_format}
+use Rattle.ap_run.specs.Formats.{by_ape, by_elf, by_mach, by_pe, plan_in, plan_by_form, reading_in, reading_by_form}
 
 by_ape-plan : (file : List ℕ) (p : Result Mapping ApeFault) (x : Result MemoryImage ApeFault) → IsPlanOf p file x → IsPlanOf (by_ape p) file (by_ape x)
 by_ape-plan file (Ok m) (Ok image) h = h
@@ -77,42 +83,50 @@ page-is A64 page h = elim (cases_Bool (page == 4096)) [ inl small ↦ inl (grind
 abbrev HasPage : Format → Type 0
 HasPage format = IsPage format.machine format.page
 
-some-then : {A B : Type 0} (P : B → Type 0) (f : A → Option B) (o : Option A) → ((x : A) → IfSome (f x) P) → IfSome (option_and_then f o) P
-some-then P f None each = tt
-some-then P f (Some x) each = each x
+both-true : (a b : Bool) → (a && b) ≡ true → a ≡ true
+both-true true b h = refl
+both-true false b h = h
 
-with-page : (form : Form) (machine : Machine) (page : ℕ) (imports : Bool) → IfSome (format_with form machine page imports) HasPage
-with-page form machine page imports = elim (cases_Bool (has_page machine page)) [
-  | inl has ↦ elim (cases_Bool (imports_fit form imports)) [
-    | inl fit ↦ rw (has, fit) (page-is machine page has)
-    | inr unfit ↦ rw (has, unfit) tt
-  ]
-  | inr hasnt ↦ rw hasnt tt
+-- a command is kept where its conditions are met
+kept-met : (c command : Command) → kept c ≡ Some command → conditions_are_met command ≡ true
+kept-met c command h = elim (cases_Bool (conditions_are_met c)) [
+  | inl met ↦ let g : Some c ≡ Some command = rw met at h in let e : c ≡ command = cc in ap conditions_are_met (sym e) ∙ met
+  | inr unmet ↦ let g : None ≡ Some command = rw unmet at h in absurd cc
 ]
 
-format-page : (command : List ℕ) (o : Options) → IfSome (format_of command o) HasPage
-format-page command o = some-then HasPage _ (form_of command o.form) (λ form. with-page form (unwrap_or o.machine X64) (unwrap_or o.page (granule_of (unwrap_or o.machine X64))) o.imports)
+then-met : (o : Option Command) (command : Command) → option_and_then kept o ≡ Some command → conditions_are_met command ≡ true
+then-met None command h = absurd cc
+then-met (Some c) command h = kept-met c command h
 
-abbrev ViewHasPage : View → Type 0
-ViewHasPage view = HasPage view.format
+by-met : (w : Option Word) (words : List (List ℕ)) (command : Command) → option_and_then (λ word. option_and_then kept (asked word words)) w ≡ Some command → conditions_are_met command ≡ true
+by-met None words command h = absurd cc
+by-met (Some word) words command h = then-met (asked word words) command h
 
-as-view : (given : Given) (f : Option Format) → IfSome f HasPage → IfSome (option_map (λ format. record { format = format; dump = given.dump; file = given.file }) f) ViewHasPage
-as-view given None h = tt
-as-view given (Some format) h = h
+pub words-met : (words : List (List ℕ)) (command : Command) → command_of words ≡ Some command → conditions_are_met command ≡ true
+unfolding command_of
+words-met [] command h = absurd cc
+words-met (name ∷ rest) command h = by-met (word_named name) (name ∷ rest) command h
 
-view-page : (command : List ℕ) (given : Given) → IfSome (view_of command given) ViewHasPage
-view-page command given = elim (cases_Bool (dump_fits command given.dump given.file)) [
-  | inl fits ↦ rw fits (as-view given (format_of command given.options) (format-page command given.options))
-  | inr not ↦ rw not tt
-]
+pub load-page : (machine : Machine) (page : ℕ) (dump : Option (List ℕ)) (file : List ℕ) → conditions_are_met (Load machine page dump file) ≡ true → IsPage machine page
+load-page machine page dump file met = page-is machine page (both-true (has_page machine page) _ met)
 
-words-page : (words : List (List ℕ)) → IfSome (view_in words) ViewHasPage
-words-page [] = tt
-words-page (command ∷ words) = some-then ViewHasPage (view_of command) (given_in no_options None words) (view-page command)
+pub map-page : (form : WordsForm) (machine : Machine) (page : ℕ) (imports : Bool) (file : List ℕ) → conditions_are_met (Map form machine page imports file) ≡ true → IsPage machine page
+map-page form machine page imports file met = page-is machine page (both-true (has_page machine page) _ met)
 
-some-is : {A : Type 0} (P : A → Type 0) (o : Option A) (x : A) → o ≡ Some x → IfSome o P → P x
-some-is P o x is h = subst (λ s. IfSome s P) is h
+format-page : (command : Command) (format : Format) → conditions_are_met command ≡ true → format_of command ≡ Some format → HasPage format
+format-page (Load machine page dump file) format met is = let e : load_format machine page ≡ format = cc in subst HasPage e (load-page machine page dump file met)
+format-page (Map form machine page imports file) format met is = let e : map_format form machine page imports ≡ format = cc in subst HasPage e (map-page form machine page imports file met)
+format-page (Link out options names) format met is = absurd cc
+format-page (Script system machine ape nul file) format met is = absurd cc
+format-page (Assimilate form machine out file) format met is = absurd cc
+format-page (Inspect file) format met is = absurd cc
+format-page (Trial number pages) format met is = absurd cc
+format-page (Bind base out file) format met is = absurd cc
+format-page (Bundle out app x64 a64) format met is = absurd cc
+format-page (Stack machine page out file words) format met is = absurd cc
+format-page (Audit file) format met is = absurd cc
 
-pub words-cells : (words : List (List ℕ)) (view : View) (file : List ℕ) → view_in words ≡ Some view → IsPlanOf (plan_in view.format file) file (reading_in view.format file)
+pub words-cells : (words : List (List ℕ)) (command : Command) (format : Format) (file : List ℕ) → command_of words ≡ Some command → format_of command ≡ Some format → IsPlanOf (plan_in format file) file (reading_in format file)
 unfolding plan_in reading_in
-words-cells words view file is = form-cells view.format.form view.format.machine view.format.page file (some-is ViewHasPage (view_in words) view is (words-page words))
+words-cells words command format file is has =
+    form-cells format.form format.machine format.page file (format-page command format (words-met words command is) has)

@@ -1,5 +1,5 @@
 -- How a command that shows a file and dumps its image file ends.
-use Rattle.std.specs.Prelude.{◌≡◌, ℕ, ◌^◌, nat_lt, if◌then◌else◌, List, length, Vec, Result, Ok, Err, Some}
+use Rattle.std.specs.Prelude.{◌≡◌, ℕ, ◌^◌, ◌<◌, ◌≤◌, nat_lt, if◌then◌else◌, List, length, Vec, Result, Ok, Err, Some}
 use Rattle.std.specs.declared.alloc.Global.{Global}
 use Rattle.ap_fields.specs.Readings.{bytes_in}
 use Rattle.ap_files.specs.Files.{FileState}
@@ -9,15 +9,15 @@ use Rattle.ap_files.specs.Appends.{IsMade, Makes}
 use Rattle.ap_files.specs.declared.failure.FileFault.TheVariants as file
 use Rattle.ap_files.specs.Reads as reads
 use Rattle.ap_files.specs.Reads.{HasFile}
-use Rattle.ap_image.specs.Plans.{Mapping}
-use Rattle.ap_image.specs.ImageFiles.{total_of, image_file}
+use Rattle.ap_image.specs.Plans.{Mapping, Imaged}
+use Rattle.ap_image.specs.ImageFiles.{total_of, front_of, image_file}
 use Rattle.ap_run.specs.declared.end.ReadingFault.{ReadingFault}
 use Rattle.ap_run.specs.declared.end.ReadingFault.TheVariants as fault
 use Rattle.ap_run.specs.declared.end.Cause.{Cause}
-use Rattle.ap_run.specs.declared.end.Cause.TheVariants.{Done, Refused, Unread, Usage, ReadFault, WriteFault, OutFault, NoMemory}
+use Rattle.ap_run.specs.declared.end.Cause.TheVariants.{Done, Refused, Unread, Usage, Unbuilt, ReadFault, WriteFault, OutFault, NoMemory}
 use Rattle.ap_run.specs.declared.format.Format.{Format}
 use Rattle.ap_run.specs.declared.dump.Parts.{Parts}
-use Rattle.ap_run.specs.PlanTexts.{plan_text}
+use Rattle.ap_texts.specs.PlanTexts.{plan_text}
 use Rattle.ap_run.specs.Formats.{plan_in}
 
 -- the image file, and the text
@@ -52,28 +52,28 @@ DumpEnds old new before after format name image ReadFault = reads.Unread old new
 DumpEnds old new before after format name image NoMemory = (new ≡ old) × (after ≡ before)
 DumpEnds old new before after format name image (Refused f) = ⊥
 DumpEnds old new before after format name image Usage = ⊥
+DumpEnds old new before after format name image (Unbuilt word) = ⊥
+
+-- the bytes of a file, of which there may be 2^30, or why they aren't read
+abbrev pub Fetches : FileState → FileState → List ℕ → Result (Vec ℕ Global) Cause → Type 0
+Fetches old new name (Ok bytes) = (new ≡ old) × (length bytes.items ≤ 2 ^ 30) × HasFile old.kept name (λ b. bytes.items ≡ b)
+Fetches old new name (Err (Unread f)) = (new ≡ old) × HasFile old.kept name (λ b. (2 ^ 30 < length b) × (f ≡ fault.Large (length b)))
+Fetches old new name (Err ReadFault) = reads.Unread old new name
+Fetches old new name (Err NoMemory) = new ≡ old
+Fetches old new name (Err _) = ⊥
+
+-- what is made of a plan over a file
+pub record ArePartsOf (whole : Imaged) (parts : Parts) : Type 0 where
+  pub image : parts.image ≡ whole
+  pub front : parts.front.items ≡ front_of whole.plan
+  pub text : parts.text.items ≡ plan_text whole.plan
 
 abbrev pub dumped_as : Parts → Dumped
-dumped_as parts = record { image = parts.image.items; text = parts.text.items }
+dumped_as parts = record { image = image_file (bytes_in parts.image.file) parts.image.plan; text = parts.text.items }
 
--- how both are made of a file
-abbrev pub PartsAnswer : FileState → FileState → Format → List ℕ → Result Parts Cause → Type 0
-PartsAnswer old new format name (Ok parts) = (new ≡ old) × IsDumped old format name (Ok (dumped_as parts))
-PartsAnswer old new format name (Err (Unread f)) = (new ≡ old) × IsDumped old format name (Err f)
-PartsAnswer old new format name (Err ReadFault) = reads.Unread old new name
-PartsAnswer old new format name (Err NoMemory) = new ≡ old
-PartsAnswer old new format name (Err _) = ⊥
-
--- and of a plan over its bytes
-abbrev pub MakesParts : Mapping → List ℕ → Result Parts Cause → Type 0
-MakesParts m file (Ok parts) = dumped_by file (Ok m) ≡ Ok (dumped_as parts)
-MakesParts m file (Err (Unread f)) = dumped_by file (Ok m) ≡ Err f
-MakesParts m file (Err NoMemory) = Unit {0}
-MakesParts m file (Err _) = ⊥
-
--- and the image file of a plan
-abbrev pub Pictures : Mapping → List ℕ → Result (Vec ℕ Global) Cause → Type 0
-Pictures m file (Ok image) = dumped_by file (Ok m) ≡ Ok (record { image = image.items; text = plan_text m })
-Pictures m file (Err (Unread f)) = dumped_by file (Ok m) ≡ Err f
-Pictures m file (Err NoMemory) = Unit {0}
-Pictures m file (Err _) = ⊥
+-- and of a file's bytes
+abbrev pub MakesParts : Format → List ℕ → Result Parts Cause → Type 0
+MakesParts format file (Ok parts) = (dumped_by file (plan_in format file) ≡ Ok (dumped_as parts)) × (parts.front.items ≡ front_of parts.image.plan)
+MakesParts format file (Err (Unread f)) = dumped_by file (plan_in format file) ≡ Err f
+MakesParts format file (Err NoMemory) = Unit {0}
+MakesParts format file (Err _) = ⊥

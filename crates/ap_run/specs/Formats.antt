@@ -1,7 +1,6 @@
 -- The formats that files are read by, and what a file is by a format.
-use Rattle.std.specs.Prelude.{ℕ, ◌^◌, ◌==◌, ◌||◌, ◌++◌, nat_lt, if◌then◌else◌, Bool, List, length, Result, Ok, Err}
+use Rattle.std.specs.Prelude.{ℕ, ◌^◌, ◌++◌, nat_lt, if◌then◌else◌, List, length, Result, Ok, Err}
 use Rattle.ap_elf.specs.declared.machine.Machine.{Machine}
-use Rattle.ap_elf.specs.declared.machine.Machine.TheVariants.{X64, A64}
 use Rattle.ap_elf.specs.Machines.{number_of}
 use Rattle.ap_elf.specs.declared.fault.ElfFault.{ElfFault}
 use Rattle.ap_loader.specs.declared.fault.ApeFault.{ApeFault}
@@ -21,17 +20,12 @@ use Rattle.ap_run.specs.declared.end.ReadingFault.TheVariants as fault
 use Rattle.ap_run.specs.declared.format.Form.{Form}
 use Rattle.ap_run.specs.declared.format.Form.TheVariants.{Ape, Elf, Mach, Pe}
 use Rattle.ap_run.specs.declared.format.Format.{Format}
-use Rattle.ap_run.specs.PlanTexts.{plan_text}
+use Rattle.ap_texts.specs.PlanTexts.{plan_text}
 use Rattle.ap_image.specs.Imports.{imports_of}
 use Rattle.ap_image.specs.declared.import_step.Ending.{Ending}
 use Rattle.ap_image.specs.declared.import_step.Ending.TheVariants as ends
 use Rattle.ap_pemap.specs.PeImports.{items_in, memory_of}
 use Rattle.ap_run.specs.ImportTexts.{imports_text}
-
--- the pages of a machine
-abbrev pub has_page : Machine → ℕ → Bool
-has_page X64 page = page == 4096
-has_page A64 page = page == 4096 || page == 16384
 
 -- what a reading answers, as a run does
 abbrev pub by_ape : {T : Type 0} → Result T ApeFault → Result T ReadingFault

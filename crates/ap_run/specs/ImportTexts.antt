@@ -4,7 +4,7 @@ use Rattle.ap_image.specs.declared.import_item.Import.{Import}
 use Rattle.ap_image.specs.declared.import_item.Wanted.{Wanted}
 use Rattle.ap_image.specs.declared.import_item.Wanted.TheVariants.{Name, Ordinal}
 use Rattle.ap_run.specs.ByteTexts.{bytes_text}
-use Rattle.ap_run.specs.PlanTexts.{hex_of}
+use Rattle.ap_texts.specs.PlanTexts.{hex_of}
 
 -- what is imported: a name, or a number in decimal digits
 abbrev pub wanted_text : Wanted → List ℕ

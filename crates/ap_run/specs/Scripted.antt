@@ -11,7 +11,7 @@ use Rattle.ap_shell.specs.Runs.{Runs}
 use Rattle.ap_shparse.specs.declared.tree.ShellFault.{ShellFault}
 use Rattle.ap_run.specs.declared.end.ReadingFault.TheVariants as fault
 use Rattle.ap_run.specs.Outcomes.{outcome_text}
-use Rattle.ap_run.specs.ScriptWords.{ScriptRun}
+use Rattle.ap_run.specs.ScriptRuns.{ScriptRun}
 use Rattle.ap_run.specs.Whole.{Sized, Telling}
 
 -- what the script sees: its file as `$0`, no arguments, no TMPDIR, the process number 1, and no utility that fails

@@ -8,10 +8,10 @@ use Rattle.ap_files.specs.Reads.{HasFile}
 use Rattle.ap_image.specs.Plans.{Mapping}
 use Rattle.ap_run.specs.declared.end.ReadingFault.{ReadingFault}
 use Rattle.ap_run.specs.declared.end.Cause.{Cause}
-use Rattle.ap_run.specs.declared.end.Cause.TheVariants.{Done, Refused, Unread, Usage, ReadFault, WriteFault, OutFault, NoMemory}
+use Rattle.ap_run.specs.declared.end.Cause.TheVariants.{Done, Refused, Unread, Usage, Unbuilt, ReadFault, WriteFault, OutFault, NoMemory}
 use Rattle.ap_run.specs.declared.format.Format.{Format}
 use Rattle.ap_files.specs.Prints.{Written, Broken}
-use Rattle.ap_run.specs.PlanTexts.{plan_text}
+use Rattle.ap_texts.specs.PlanTexts.{plan_text}
 use Rattle.ap_run.specs.Formats.{text_in, listing}
 use Rattle.ap_run.specs.Whole.{Telling}
 
@@ -36,6 +36,7 @@ Ends old new before after P name OutFault = (new ≡ old) × ((text : List ℕ) 
 Ends old new before after P name NoMemory = (new ≡ old) × (after ≡ before)
 Ends old new before after P name (Refused fault) = ⊥
 Ends old new before after P name Usage = ⊥
+Ends old new before after P name (Unbuilt word) = ⊥
 Ends old new before after P name WriteFault = ⊥
 
 -- how a text is printed

@@ -1,16 +1,17 @@
 // Files that are shown and dumped.
-ghost use Rattle.std.specs.Prelude.{◌≡◌, length};
+ghost use Rattle.std.specs.Prelude.{◌≡◌, ◌≤◌, ◌^◌, length, IfOk};
 ghost use Rattle.ap_elf.specs.Machines.{IsPage};
 ghost use Rattle.ap_image.specs.Plans.{AreBacked};
-ghost use Rattle.ap_run.specs.Dumps.{PartsAnswer, MakesParts, DumpEnds, Pictures};
+ghost use Rattle.ap_run.specs.Dumps.{ArePartsOf, DumpEnds, Fetches, MakesParts};
 
 use crate::end::{Cause, ReadingFault};
+use crate::fetch::measure;
 use crate::format::Format;
-use crate::planned::plan_of;
+use crate::planned::plan_over;
 use crate::show::print_text;
-use crate::text::plan_text;
-use ap_files::{Files, ReadAllFault, Sink, read_all, write_all};
-use ap_image::{DumpFault, Plan, address_count};
+use ap_files::{Files, NoMemory, ReadAllFault, Sink, read_all};
+use ap_image::{Image, Plan, address_count, image_front, write_image};
+use ap_texts::plan_text;
 use std::alloc::Global;
 
 /// The most addresses of a plan whose image file is made: 2^30.
@@ -18,14 +19,17 @@ const WIDEST: u64 = 1 << 30;
 
 /// What is made of a file.
 #[derive(Drop)]
-pub struct Parts {
-    /// The bytes of the image file of its plan.
-    pub image: Vec<u8>,
+pub struct Parts<'f> {
+    /// Its plan, over its bytes.
+    pub image: Image<'f>,
+    /// What stands before the bytes of its image file.
+    pub front: Vec<u8>,
     /// The text of its plan.
     pub text: Vec<u8>,
 }
 
-/// Writes the image file of a file's plan by a format, prints the plan on `out`, and answers how that ended.
+/// Writes the image file of a file's plan by a format, prints the plan on `out`, and answers how that ended. The file is read
+/// whole, once, before anything is written; its image file is written piece by piece.
 pub fn dump<F: Files, O: Sink>(
     alloc: Global,
     files: &mut F,
@@ -38,64 +42,68 @@ pub fn dump<F: Files, O: Sink>(
     ensures { DumpEnds (F.state files.old) (F.state files.new) (O.state out.old) (O.state out.new)
         format.now name.now image.now result }
 {
-    let parts = match parts_of(alloc, files, format, name) {
+    let file = match bytes_of(alloc, files, name) {
+        Ok(file) => file,
+        Err(cause) => return cause,
+    };
+    let parts = match parts_of(alloc, format, &file) {
         Ok(parts) => parts,
         Err(cause) => return cause,
     };
-    match write_all(files, image, &parts.image) {
+    match write_image(files, image, &parts.front, &parts.image) {
         Ok(()) => print_text(out, &parts.text),
         Err(_) => Cause::WriteFault,
     }
 }
 
-// What is made of a file, or why nothing is.
-fn parts_of<F: Files>(
-    alloc: Global,
-    files: &mut F,
-    format: &Format,
-    name: &str,
-) -> Result<Parts, Cause>
-    requires { IsPage format.now.machine format.now.page }
-    ensures { PartsAnswer (F.state files.old) (F.state files.new) format.now name.now result }
+// The bytes of a file, of which there may be 2^30, or why they aren't read.
+fn bytes_of<F: Files>(alloc: Global, files: &mut F, name: &str) -> Result<Vec<u8>, Cause>
+    ensures { Fetches (F.state files.old) (F.state files.new) name.now result }
 {
-    let planned = match plan_of(files, format, name) {
-        Ok(planned) => planned,
+    let size = match measure(files, name) {
+        Ok(size) => size,
         Err(cause) => return Err(cause),
     };
-    let total = address_count(&planned.plan);
-    if total > WIDEST {
-        return Err(Cause::Unread(ReadingFault::Wide { total }));
-    }
-    match read_all(alloc, files, name, planned.size as usize) {
-        Ok(file) => made_of(alloc, &planned.plan, &file),
+    match read_all(alloc, files, name, size as usize) {
+        Ok(file) => Ok(file),
         Err(ReadAllFault::NoMemory) => Err(Cause::NoMemory),
         Err(ReadAllFault::Read) => Err(Cause::ReadFault),
     }
 }
 
-// What is made of a plan over a file.
-fn made_of(alloc: Global, plan: &Plan, file: &[u8]) -> Result<Parts, Cause>
-    requires { AreBacked plan.now.regions (length file.now) }
-    ensures { MakesParts plan.now file.now result }
+// What is made of a file's bytes, or why nothing is.
+fn parts_of<'f>(alloc: Global, format: &Format, file: &'f [u8]) -> Result<Parts<'f>, Cause>
+    requires { IsPage format.now.machine format.now.page }
+    ensures { MakesParts format.now file.now result }
 {
-    let image = match image_of(alloc, plan, file) {
-        Ok(image) => image,
-        Err(cause) => return Err(cause),
+    let plan = match plan_over(format, file) {
+        Ok(plan) => plan,
+        Err(fault) => return Err(Cause::Unread(fault)),
     };
-    match plan_text(alloc, plan) {
-        Ok(text) => Ok(Parts { image, text }),
+    let total = address_count(&plan);
+    if total > WIDEST {
+        return Err(Cause::Unread(ReadingFault::Wide { total }));
+    }
+    match parts_with(alloc, plan, file) {
+        Ok(parts) => Ok(parts),
         Err(_) => Err(Cause::NoMemory),
     }
 }
 
-// The image file of a plan.
-fn image_of(alloc: Global, plan: &Plan, file: &[u8]) -> Result<Vec<u8>, Cause>
-    requires { AreBacked plan.now.regions (length file.now) }
-    ensures { Pictures plan.now file.now result }
+fn parts_with<'f>(alloc: Global, plan: Plan, file: &'f [u8]) -> Result<Parts<'f>, NoMemory>
+    requires { AreBacked plan.regions (length file.now) }
+    ensures { IfOk result
+        (λ parts. ArePartsOf (record { plan = plan; file = file.now }) parts) }
 {
-    match ap_image::dump(alloc, plan, file) {
-        Ok(image) => Ok(image),
-        Err(DumpFault::Wide { total }) => Err(Cause::Unread(ReadingFault::Wide { total })),
-        Err(DumpFault::NoMemory) => Err(Cause::NoMemory),
+    let Ok(front) = image_front(alloc, &plan) else {
+        return Err(NoMemory);
+    };
+    match plan_text(alloc, &plan) {
+        Ok(text) => Ok(Parts {
+            image: Image::new(plan, file),
+            front,
+            text,
+        }),
+        Err(_) => Err(NoMemory),
     }
 }

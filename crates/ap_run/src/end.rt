@@ -12,6 +12,7 @@ use ap_image::WalkFault;
 use ap_loader::ApeFault;
 use ap_machmap::MachFault;
 use ap_pemap::PeFault;
+use ap_words::Word;
 
 /// Why a file isn't taken by a command that reads one.
 #[derive(Clone, Copy, Debug, PartialEq, Eq)]
@@ -41,6 +42,10 @@ pub enum ReadingFault {
         /// The length of the text's longest whole front, in bytes.
         at: u64,
     },
+    /// It is no APE file.
+    NotApe,
+    /// It has no statement for the machine, or no `dd` statement.
+    NoStatement,
 }
 
 /// Why a run ended.
@@ -54,6 +59,8 @@ pub enum Cause {
     Unread(ReadingFault),
     /// The words are no command.
     Usage,
+    /// The command isn't built yet.
+    Unbuilt(Word),
     /// A file could not be read, or isn't there.
     ReadFault,
     /// A file could not be written.
@@ -66,7 +73,7 @@ pub enum Cause {
 
 /// The end of a run: its cause, and the status that the process ends with.
 ///
-/// The status is 0 for `Done`, 1 for `Refused` and `Unread`, 2 for `Usage`, 3 for `ReadFault`, 4 for `WriteFault` and
+/// The status is 0 for `Done`, 1 for `Refused` and `Unread`, 2 for `Usage` and `Unbuilt`, 3 for `ReadFault`, 4 for `WriteFault` and
 /// `OutFault`, and 5 for `NoMemory`.
 #[derive(Clone, Copy, Debug, PartialEq, Eq)]
 pub struct End {
@@ -95,7 +102,7 @@ fn status(cause: &Cause) -> u8
     match cause {
         Cause::Done => 0,
         Cause::Refused(_) | Cause::Unread(_) => 1,
-        Cause::Usage => 2,
+        Cause::Usage | Cause::Unbuilt(_) => 2,
         Cause::ReadFault => 3,
         Cause::WriteFault | Cause::OutFault => 4,
         Cause::NoMemory => 5,

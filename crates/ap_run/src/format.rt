@@ -1,9 +1,10 @@
 // The formats that files are read by.
-ghost use Rattle.std.specs.Prelude.{◌≡◌, IfOk, IsTrue};
+ghost use Rattle.std.specs.Prelude.{◌≡◌, IfOk};
 ghost use Rattle.ap_files.specs.Reads.{HasSize, Reads};
 ghost use Rattle.ap_elf.specs.Machines.{IsPage};
 ghost use Rattle.ap_image.specs.Plans.{AreBacked};
 ghost use Rattle.ap_run.specs.Formats as spec;
+ghost use Rattle.ap_run.specs.Views as views;
 ghost use Rattle.ap_run.specs.Formats.{plan_in};
 
 use crate::end::ReadingFault;
@@ -138,13 +139,13 @@ fn mach_plan<F: Files>(
     }
 }
 
-/// Whether a machine has pages of so many bytes: 4096, or also 16384 for AArch64.
-pub fn has_page(machine: Machine, page: u64) -> bool
-    ensures test { result ≡ spec.has_page machine page }
-    ensures page { IsTrue result → IsPage machine page }
+/// The form that words name.
+pub fn form_of(form: ap_words::Form) -> Form
+    ensures { result ≡ views.form_of form }
 {
-    match machine {
-        Machine::X64 => page == 4096,
-        Machine::A64 => page == 4096 || page == 16384,
+    match form {
+        ap_words::Form::Pe => Form::Pe,
+        ap_words::Form::Mach => Form::Mach,
+        ap_words::Form::Elf => Form::Elf,
     }
 }

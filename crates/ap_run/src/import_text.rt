@@ -3,8 +3,8 @@ ghost use Rattle.std.specs.Prelude.{◌≡◌, ◌++◌, OnOk};
 ghost use Rattle.ap_run.specs.ImportTexts.{import_line, imports_text, wanted_text};
 
 use crate::byte_text::push_bytes;
-use crate::text::push_hex;
 use ap_image::{Import, Wanted};
+use ap_texts::push_hex;
 use itoa::Buffer;
 use std::alloc::AllocError;
 

@@ -1,7 +1,7 @@
 // What holds of the definitions themselves.
 ghost use Rattle.std.specs.Prelude.{◌≡◌, ℕ, List, Result};
 ghost use Rattle.ap_run.specs.Scripted.{Scripted};
-ghost use Rattle.ap_run.specs.ScriptWords.{ScriptRun};
+ghost use Rattle.ap_run.specs.ScriptRuns.{ScriptRun};
 ghost use Rattle.ap_run.specs.declared.end.ReadingFault.{ReadingFault};
 
 /// What a file's script does has one answer, which is the text of its outcome or the refusal of the file.

@@ -2,15 +2,17 @@
 ghost use Rattle.std.specs.Prelude.{◌≡◌, ◌+◌, ◌≤◌, ◌++◌, length, decimal, option_map};
 ghost use Rattle.arrayvec.specs.ArrayVec.{array_vec_len};
 ghost use Rattle.ap_run.specs.Lines as spec;
-ghost use Rattle.ap_run.specs.Lines.{line_of, fault_line, cause_name, mach_cause_name, pe_cause_name, walk_cause_name};
+ghost use Rattle.ap_run.specs.Lines.{line_of, fault_line, walk_cause_name};
 
 use crate::end::{Cause, ReadingFault};
 use ap_check::Fault;
-use ap_elf::{ElfCause, ElfFault};
+use ap_elf::ElfFault;
 use ap_image::WalkCause;
 use ap_loader::ApeFault;
-use ap_machmap::{MachCause, MachFault};
-use ap_pemap::{PeCause, PeFault};
+use ap_machmap::MachFault;
+use ap_pemap::PeFault;
+use ap_texts::{elf_name, mach_name, pe_name};
+use ap_words::name_of;
 use arrayvec::ArrayVec;
 use itoa::Buffer;
 
@@ -28,6 +30,7 @@ pub fn line(cause: &Cause) -> Option<Line>
         Cause::Usage => Some(plain_line(
             b"apetool: usage: apetool link|load|map|script|assimilate|inspect|trial ...\n",
         )),
+        Cause::Unbuilt(word) => Some(unbuilt_line(name_of(*word).as_bytes())),
         Cause::ReadFault => Some(plain_line(b"apetool: cannot read\n")),
         Cause::WriteFault => Some(plain_line(b"apetool: cannot write\n")),
         Cause::OutFault => Some(plain_line(b"apetool: cannot print\n")),
@@ -42,6 +45,19 @@ fn plain_line(text: &[u8]) -> Line
 {
     let mut line = Line::new();
     push(&mut line, text);
+    line
+}
+
+// The line of a command that isn't built yet.
+#[tactic(auto, using(std::proofs::Common::append_assoc))]
+fn unbuilt_line(name: &[u8]) -> Line
+    requires { length name.now ≤ 20 }
+    ensures { result.items ≡ spec.unbuilt_line name.now }
+{
+    let mut line = Line::new();
+    push(&mut line, b"apetool: ");
+    push(&mut line, name);
+    push(&mut line, b" isn't built yet\n");
     line
 }
 
@@ -70,6 +86,8 @@ fn reading_line(fault: &ReadingFault) -> Line
         ReadingFault::Mach(fault) => mach_line(fault),
         ReadingFault::Walk(fault) => form_line(b"import", walk_name(fault.cause), 0, fault.at),
         ReadingFault::Shell { at } => form_line(b"shell", b"Outside", 0, *at),
+        ReadingFault::NotApe => form_line(b"assimilate", b"NotApe", 0, 0),
+        ReadingFault::NoStatement => form_line(b"assimilate", b"NoStatement", 0, 0),
     }
 }
 
@@ -86,7 +104,7 @@ fn ape_line(fault: &ApeFault) -> Line
 fn elf_line(fault: &ElfFault) -> Line
     ensures { result.items ≡ spec.elf_line fault.now }
 {
-    form_line(b"elf", name(fault.cause), fault.item, fault.value)
+    form_line(b"elf", elf_name(fault.cause), fault.item, fault.value)
 }
 
 fn pe_line(fault: &PeFault) -> Line
@@ -117,86 +135,6 @@ fn form_line(form: &[u8], name: &[u8], item: u16, value: u64) -> Line
     push_number(&mut line, b" value ", value);
     push(&mut line, b"\n");
     line
-}
-
-// The name of a cause.
-fn name(cause: ElfCause) -> &'static [u8]
-    ensures name { result.now ≡ cause_name cause }
-    ensures short { length result.now ≤ 20 }
-{
-    match cause {
-        ElfCause::Short => b"Short",
-        ElfCause::Magic => b"Magic",
-        ElfCause::Class => b"Class",
-        ElfCause::Endian => b"Endian",
-        ElfCause::Version => b"Version",
-        ElfCause::FileType => b"FileType",
-        ElfCause::Machine => b"Machine",
-        ElfCause::TableSize => b"TableSize",
-        ElfCause::TableCount => b"TableCount",
-        ElfCause::TableRange => b"TableRange",
-        ElfCause::Dynamic => b"Dynamic",
-        ElfCause::Sizes => b"Sizes",
-        ElfCause::Range => b"Range",
-        ElfCause::Top => b"Top",
-        ElfCause::Congruent => b"Congruent",
-        ElfCause::Order => b"Order",
-        ElfCause::NoLoad => b"NoLoad",
-    }
-}
-
-// The name of a cause of the PE reading.
-fn pe_name(cause: PeCause) -> &'static [u8]
-    ensures name { result.now ≡ pe_cause_name cause }
-    ensures short { length result.now ≤ 20 }
-{
-    match cause {
-        PeCause::Mz => b"Mz",
-        PeCause::Signature => b"Signature",
-        PeCause::Machine => b"Machine",
-        PeCause::Sections => b"Sections",
-        PeCause::OptionalSize => b"OptionalSize",
-        PeCause::OptionalMagic => b"OptionalMagic",
-        PeCause::Base => b"Base",
-        PeCause::Alignment => b"Alignment",
-        PeCause::Directories => b"Directories",
-        PeCause::SectionTable => b"SectionTable",
-        PeCause::HeadersSize => b"HeadersSize",
-        PeCause::Empty => b"Empty",
-        PeCause::Adjacent => b"Adjacent",
-        PeCause::RawAlign => b"RawAlign",
-        PeCause::RawRange => b"RawRange",
-        PeCause::SectionEnd => b"SectionEnd",
-        PeCause::ImageSize => b"ImageSize",
-        PeCause::Top => b"Top",
-        PeCause::Entry => b"Entry",
-    }
-}
-
-// The name of a cause of the Mach-O reading.
-fn mach_name(cause: MachCause) -> &'static [u8]
-    ensures name { result.now ≡ mach_cause_name cause }
-    ensures short { length result.now ≤ 20 }
-{
-    match cause {
-        MachCause::Short => b"Short",
-        MachCause::Magic => b"Magic",
-        MachCause::Cpu => b"Cpu",
-        MachCause::FileType => b"FileType",
-        MachCause::Count => b"Count",
-        MachCause::CommandRange => b"CommandRange",
-        MachCause::CommandSize => b"CommandSize",
-        MachCause::Dynamic => b"Dynamic",
-        MachCause::SegmentSize => b"SegmentSize",
-        MachCause::Aligned => b"Aligned",
-        MachCause::Sizes => b"Sizes",
-        MachCause::Range => b"Range",
-        MachCause::Top => b"Top",
-        MachCause::Order => b"Order",
-        MachCause::Many => b"Many",
-        MachCause::Thread => b"Thread",
-        MachCause::NoThread => b"NoThread",
-    }
 }
 
 // The name of a cause of the import walk.

@@ -1,30 +1,49 @@
-// What the words of a link name.
-ghost use Rattle.ap_check.specs.Options.{AreTaken};
+// Files that are linked.
+ghost use Rattle.std.specs.Prelude.{◌≡◌, true};
+ghost use Rattle.std.specs.Option.{option_copied};
+ghost use Rattle.ap_words.specs.declared.command.Command.TheVariants as command;
+ghost use Rattle.ap_words.specs.Conditions.{conditions_are_met};
+ghost use Rattle.ap_run.specs.Ends.{LinkEnds};
+ghost use Rattle.ap_run.specs.Links.{first_name, link_names, second_name};
 
-use ap_check::Systems;
+use crate::end::Cause;
+use ap_check::Options;
+use ap_claims::Block;
+use ap_files::Files;
+use ap_link::{LinkEnd, link_stream};
+use ap_words::Text;
 
-/// What a link is to do.
-#[derive(Clone, Copy)]
-pub struct Link<'a> {
-    /// The systems that the file is to run on.
-    pub systems: Systems,
-    /// Whether it has the magic that debuggers know.
-    pub debug: bool,
-    /// The file to make.
-    pub out: &'a str,
-    /// The program to link.
-    pub first: &'a str,
-    /// The program for another machine, if there is one.
-    pub second: Option<&'a str>,
-    pub ghost taken: { AreTaken (record { systems = systems; debug = debug }) },
+/// Links one or two files into another, and answers how that ended.
+pub fn link<F: Files>(files: &mut F, out: &str, options: &Options, names: &[Text]) -> Cause
+    requires { conditions_are_met (command.Link out.now options.now names.now) ≡ true }
+    ensures { LinkEnds (F.state files.old) (F.state files.new)
+        (link_names out.now options.now names.now) result }
+{
+    let first = first_of(names);
+    let second = second_of(names);
+    let mut block = Block::new();
+    match link_stream(first, second, options, out, files, &mut block) {
+        Ok(_) => Cause::Done,
+        Err(LinkEnd::Rule(fault)) => Cause::Refused(fault),
+        Err(LinkEnd::ReadFault) => Cause::ReadFault,
+        Err(LinkEnd::WriteFault) => Cause::WriteFault,
+    }
 }
 
-/// What some words of a link say.
-#[derive(Clone, Copy)]
-pub struct Parts<'a> {
-    pub systems: Option<Systems>,
-    pub debug: bool,
-    pub out: Option<&'a str>,
-    pub first: Option<&'a str>,
-    pub second: Option<&'a str>,
+fn first_of(names: &[Text]) -> &str
+    ensures { result.now ≡ first_name names.now }
+{
+    match names.first() {
+        Some(name) => name.as_str(),
+        None => "",
+    }
+}
+
+fn second_of(names: &[Text]) -> Option<&str>
+    ensures { option_copied result ≡ second_name names.now }
+{
+    match names.get(1) {
+        Some(name) => Some(name.as_str()),
+        None => None,
+    }
 }

@@ -3,15 +3,15 @@ ghost use Rattle.std.specs.Prelude.{◌≡◌, ◌++◌, IfOk};
 ghost use Rattle.ap_run.specs.Shows.{Answers, Lists};
 ghost use Rattle.ap_run.specs.Whole.{MakesOf, Sized};
 ghost use Rattle.ap_run.specs.ImportTexts.{imports_text};
-ghost use Rattle.ap_run.specs.PlanTexts as spec;
+ghost use Rattle.ap_texts.specs.PlanTexts as spec;
 
 use crate::end::{Cause, ReadingFault};
 use crate::fetch::measure;
 use crate::import_text::push_imports;
-use crate::text::plan_text;
 use ap_files::{Files, ReadAllFault, read_all};
 use ap_image::{Import, Plan, Reading};
 use ap_pemap::{ImportFault, PeReading, imports};
+use ap_texts::plan_text;
 use std::alloc::{AllocError, Global};
 
 /// The text of the plan and the imports of a file, or why there is none. The file is read whole.

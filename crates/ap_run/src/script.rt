@@ -2,14 +2,14 @@
 ghost use Rattle.std.specs.Prelude.{◌≡◌, IfOk};
 ghost use Rattle.ap_run.specs.Scripted as spec;
 ghost use Rattle.ap_run.specs.Scripted.{Answered, RunsTo, Scripted};
-ghost use Rattle.ap_run.specs.ScriptWords.{script_run};
+ghost use Rattle.ap_run.specs.ScriptRuns.{script_run};
 ghost use Rattle.ap_run.specs.Shows.{Answers, Ends};
 ghost use Rattle.ap_run.specs.Whole.{MakesOf};
 
 use crate::end::{Cause, ReadingFault};
 use crate::fetch::measure;
 use crate::outcome::outcome_text;
-use crate::script_words::ScriptRun;
+use crate::script_run::ScriptRun;
 use crate::show::print_text;
 use ap_files::{Files, ReadAllFault, Sink, read_all};
 use ap_shell::{Env, Host, HostFile, Outcome, run_script};

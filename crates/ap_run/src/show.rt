@@ -6,9 +6,9 @@ use crate::end::Cause;
 use crate::format::Format;
 use crate::listing::listing_of;
 use crate::planned::plan_of;
-use crate::text::plan_text;
 use ap_files::{Files, Sink, print};
 use ap_image::Plan;
+use ap_texts::plan_text;
 use std::alloc::Global;
 
 /// Prints the plan of a file by a format on `out`, with its imports where the format has them, and answers how that ended.

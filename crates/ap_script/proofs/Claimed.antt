@@ -25,7 +25,7 @@ use Rattle.ap_pe.specs.Claims.{mark_bytes, place_bytes}
 use Rattle.ap_pe.specs.Linked.{headers_of, claims_of, headers_place, pe_text}
 use Rattle.ap_pe.proofs.LinkedHeaders.{length-pe_text}
 use Rattle.ap_layout.proofs.X64Places.{found-in}
-use Rattle.ap_mach.specs.Linked.{mach_place, header_text, mach_text, header_claims, mac_claims}
+use Rattle.ap_mach.specs.Linked.{mach_place, header_text, header_claims, mac_claims}
 use Rattle.ap_mach.proofs.LinkedHeaders.{text-room, place-is}
 use Rattle.ap_script.specs.Tables.{table_text}
 use Rattle.ap_script.specs.Script.{header_for}

@@ -6,6 +6,7 @@ pub mod Openings
 pub mod ScriptParts
 pub mod BlockParts
 pub mod StatementPlaces
+pub mod DdStatements
 pub mod InputStatements
 pub mod Words
 pub mod LeastNumbers

@@ -14,11 +14,11 @@ abbrev pub word : List ℕ
 word = codes "printf '"
 
 -- a text has no such byte
-abbrev lacks : ℕ → List ℕ → Bool
+abbrev pub lacks : ℕ → List ℕ → Bool
 lacks b [] = true
 lacks b (c ∷ text) = not (c == b) && lacks b text
 
-lacks-says : (b : ℕ) (text : List ℕ) (j : ℕ) → lacks b text ≡ true → j < length text → get_or text j 0 ≢ b
+pub lacks-says : (b : ℕ) (text : List ℕ) (j : ℕ) → lacks b text ≡ true → j < length text → get_or text j 0 ≢ b
 lacks-says b [] j h low e = absurd (omega (arith, low))
 lacks-says b (c ∷ text) zero h low e =
     let same : (c == b) ≡ true = grind (arith, nat_tests, e) in

@@ -1,14 +1,14 @@
 -- `printf '` stands in the window of a linked file where the script has its statements, and nowhere else.
-use Rattle.std.proofs.Common.{◌≡◌, ◌⊎◌, inl, inr, ℕ, zero, suc, ◌+◌, ◌-◌, ◌/◌, ◌≤◌, ◌<◌, List, [], ◌∷◌, ◌++◌, length, take, drop, get_or, Option, Some, None, refl, sym, ap, ◌∙◌, arith, length-append, append_assoc, subst}
+use Rattle.std.proofs.Common.{◌≡◌, ◌⊎◌, inl, inr, ℕ, zero, suc, ◌+◌, ◌-◌, ◌/◌, ◌≤◌, ◌<◌, List, [], ◌∷◌, ◌++◌, length, get_or, Option, Some, None, refl, sym, ap, ◌∙◌, arith, length-append, append_assoc, subst}
 use Rattle.std.specs.Prelude.{codes, All, Contains, ◌↔◌, slice_range}
-use Rattle.std.proofs.Math.Seq.{drop-append_seam}
-use Rattle.std.proofs.lemmas.List.{get_or_append_left, get_or-append_right, take_all, take-append-le}
-use Rattle.ap_fields.specs.declared.sizes.TheConstants.{BLOCK, WINDOW}
-use Rattle.ap_fields.specs.Bytes.{zeros, Holds}
+use Rattle.std.proofs.lemmas.List.{get_or_append_left, get_or-append_right}
+use Rattle.ap_fields.specs.declared.sizes.TheConstants.{WINDOW}
+use Rattle.ap_fields.specs.Bytes.{Holds}
 use Rattle.ap_octal.specs.Embedded.{Opens, Closes, Embeds}
 use Rattle.ap_octal.specs.OctalText.{IsOctal}
 use Rattle.ap_octal.specs.Statement.{octals_of, statement_of}
 use Rattle.ap_octal.proofs.OctalLemmas.{octal-bytes}
+use Rattle.ap_octal.proofs.DdTexts.{range-part}
 use Rattle.ap_check.specs.declared.options.Options.{Options}
 use Rattle.ap_elf.specs.declared.machine.Machine.{Machine}
 use Rattle.ap_elf.specs.declared.machine.Machine.TheVariants.{X64, A64}
@@ -199,16 +199,6 @@ in-octals file place header i p low =
     ∙ whole.same (8 + i) (omega arith)
     ∙ get_or-append_right (codes "printf '") rest 8 (8 + i) 0 refl (omega arith)
     ∙ ap (λ n. get_or rest n 0) back
-
-range-part : (front part behind : List ℕ) (a b : ℕ) → length front ≡ a → a + length part ≡ b → slice_range (front ++ (part ++ behind)) a b ≡ part
-range-part front part behind a b long is =
-    let whole = front ++ (part ++ behind) in
-    let size : b - length front ≡ length part = omega arith in
-    ap (λ n. take (b - n) (drop n whole)) (sym long)
-    ∙ ap (take (b - length front)) (drop-append_seam front (part ++ behind))
-    ∙ ap (λ n. take n (part ++ behind)) size
-    ∙ take-append-le (length part) part behind (omega arith)
-    ∙ take_all (length part) part (omega arith)
 
 octal-parts : (file : List ℕ) (place : ℕ) (header : List ℕ) (p : Parts file place header) → file ≡ (p.front ++ codes "printf '") ++ (octals_of header ++ (codes "'" ++ p.behind))
 unfolding statement_of

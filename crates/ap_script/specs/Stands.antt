@@ -1,6 +1,7 @@
 -- What stands in the block of a linked file, and where.
 use Rattle.std.specs.Prelude.{◌≡◌, ◌≢◌, ◌⊎◌, ℕ, ◌+◌, ◌/◌, ◌<◌, ◌≤◌, List, [], ◌∷◌, ◌++◌, length, All, slice_index, Option, Some, None}
 use Rattle.ap_fields.specs.Bytes.{Holds}
+use Rattle.ap_octal.specs.declared.types.DdStatement.{DdStatement}
 use Rattle.ap_elf.specs.declared.machine.Machine.{Machine}
 use Rattle.ap_elf.specs.declared.machine.Machine.TheVariants.{X64, A64}
 use Rattle.ap_check.specs.declared.options.Options.{Options}
@@ -59,3 +60,12 @@ abbrev pub statement_places : Options → List Taken → Positions → List ℕ
 statement_places options inputs l =
     place_if (header_for X64 (placed_inputs inputs l)) (statement_place options inputs l X64)
     ++ place_if (header_for A64 (placed_inputs inputs l)) (statement_place options inputs l A64)
+
+-- where the script's `dd` statement stands, if an input has a Mach-O header: behind the body, the delimiter's line of 17 bytes, the
+-- script's first lines, and those for macOS up to ` bs=`
+abbrev pub dd_place : Positions → ℕ
+dd_place l = l.body_end + (17 + (length script_start + 124))
+
+-- and that statement, which copies the Mach-O header in blocks of eight bytes
+abbrev pub script_dd : Positions → DdStatement
+script_dd l = record { at = dd_place l; size = 8; skip = l.mach_at / 8; count = l.mach_len / 8 }

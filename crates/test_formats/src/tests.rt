@@ -9,6 +9,7 @@ mod mach;
 mod memory;
 mod octal;
 mod pe;
+mod pieces;
 mod plans;
 mod readings;
 mod streams;

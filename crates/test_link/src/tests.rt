@@ -3,6 +3,8 @@ ghost use Rattle.std.specs.Prelude.{◌≡◌, ◌≢◌, IfSome, option_copied,
 
 mod dispatch;
 mod mac;
+mod report;
+mod shared;
 mod windows;
 
 use ap_check::{Fault, Options, Systems};

@@ -7,11 +7,14 @@ mod imports;
 mod inputs;
 mod mac;
 mod positions;
+mod shared;
 
 use ap_check::{CheckEnd, Input, Options, Systems, check_input_in};
 use ap_elf::Entry;
 use ap_fields::{put16, put32, put64};
 use ap_files::{Failed, Files};
+use ap_layout::Twins;
+use arrayvec::ArrayVec;
 use std::process::Abort;
 
 /// One load of 16 bytes, which stand at 128, behind the header and one program header.
@@ -138,6 +141,13 @@ fn entry_of(row: Row) -> Entry {
         filesz,
         memsz,
         align,
+    }
+}
+
+/// Loads of which none has the content of another.
+fn apart() -> Twins {
+    Twins {
+        masks: ArrayVec::new(),
     }
 }
 

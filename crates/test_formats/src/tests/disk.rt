@@ -57,7 +57,7 @@ static CASES: [&[(Step, bool)]; 4] = [
         (Step::Remove("in"), true),
         (Step::Start("out"), true),
         (Step::Read("in", 0, b"abc"), true),
-        (Step::Remove("out.0"), true),
+        (Step::Remove(".ape0"), true),
         (Step::Add("out", b"a"), true),
         (Step::Read("in", 1, b"bc"), true),
         (Step::Add("out", b"b"), true),

@@ -147,6 +147,6 @@ fn by_name(file: &[u8; 400], name: &str) -> Result<Found, Failed> {
     match locate_in(&mut files, "in", 400, &header(file))? {
         Located::Part { part } => Ok((part, None)),
         Located::Missing => Ok(NONE),
-        Located::At(t) => Ok((0, symbol_in(&mut files, "in", &t, name.as_bytes())?)),
+        Located::At(t) => Ok((0, symbol_in(&mut files, "in", &t, name.as_bytes(), &[])?)),
     }
 }

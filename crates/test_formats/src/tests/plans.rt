@@ -8,21 +8,21 @@ use bitflags::Flags;
 use std::test::Fail;
 
 /// Read and execute.
-fn code() -> Perms
+pub fn code() -> Perms
     ensures { result.0 ≡ 5 }
 {
     Perms::R.union(Perms::X)
 }
 
 /// Read and write.
-fn data() -> Perms
+pub fn data() -> Perms
     ensures { result.0 ≡ 6 }
 {
     Perms::R.union(Perms::W)
 }
 
 /// A page of code that a file shows from 0x4000 on, and two pages of zeros.
-fn code_and_zeros() -> Plan
+pub fn code_and_zeros() -> Plan
     ensures { AreBacked result.regions 0x5000 }
 {
     let mut regions = ArrayVec::new();

@@ -1,5 +1,5 @@
 // Blocks byte by byte: the worked example, two machines, owners, and claims that clash.
-use super::{PLAIN, linux, other};
+use super::{PLAIN, apart, linux, other};
 use ap_check::{check_all, check_input};
 use ap_claims::{Block, Clash, Owner, Owners};
 use ap_fields::BLOCK;
@@ -46,7 +46,7 @@ fn each_byte_of_a_block_has_its_owners(rt: HostRuntime) -> Result<(), Fail> {
     let job = check_all(&input, None, &linux(), &PLAIN)
         .ok()
         .ok_or("refused")?;
-    let lay = place(&job);
+    let lay = place(&job, &apart());
     let mut block = Block::new();
     assert!(rt; write_tables(&mut block, &job, &lay).is_ok());
     assert!(rt; write_script(&mut block, &job, &lay).is_ok());
@@ -75,7 +75,7 @@ fn two_machines_stand_in_either_order(rt: HostRuntime) -> Result<(), Fail> {
         let job = check_all(&first, Some(&second), &linux(), &PLAIN)
             .ok()
             .ok_or("refused")?;
-        let lay = place(&job);
+        let lay = place(&job, &apart());
         assert!(rt; lay.tables.as_slice() == [96, 152].as_slice() && lay.body_end == 208);
         let [h, g] = [elf_header(&job, &lay, 0), elf_header(&job, &lay, 1)];
         assert!(rt; [h[18], g[18]] == machines && [h[32], g[32]] == [96, 152]);
@@ -96,7 +96,7 @@ fn a_held_byte_is_told(rt: HostRuntime) -> Result<(), Fail> {
     let job = check_all(&input, None, &linux(), &PLAIN)
         .ok()
         .ok_or("refused")?;
-    let lay = place(&job);
+    let lay = place(&job, &apart());
     let mut block = Block::new();
     assert!(rt; block.claim(Owner::Shell, 97, &[9]).is_ok());
     let clash = Clash {

@@ -1,7 +1,7 @@
 // Rule 29, where the Mach-O header stands, and the script's lines for macOS.
 ghost use Rattle.std.specs.Prelude.{◌≡◌, false};
 
-use super::{PLAIN, USUAL, file_of, other, taken};
+use super::{PLAIN, USUAL, apart, file_of, other, taken};
 use ap_check::*;
 use ap_claims::{Block, Owners};
 use ap_layout::place;
@@ -83,7 +83,7 @@ fn the_header_stands_behind_the_window(rt: HostRuntime) -> Result<(), Fail> {
     let job = check_all_in(&input, None, &mac(), &mut files, "a")
         .ok()
         .ok_or("refused")?;
-    let lay = place(&job);
+    let lay = place(&job, &apart());
     assert!(rt; (lay.mach_at, lay.mach_len) == (8192, 576));
     let mut block = Block::new();
     assert!(rt; write_mach(&mut block, &job, &lay).is_ok());
@@ -102,7 +102,7 @@ fn is_written(rt: &impl Abort, program: &[u8; 144], len: u32, lines: &[u8]) -> O
     let input = check_input(program, 1).ok()?;
     assert!(rt; input.size == 144);
     let job = check_all(&input, None, &mac(), program).ok()?;
-    let lay = place(&job);
+    let lay = place(&job, &apart());
     assert!(rt; lay.mach_len == len && (lay.mach_at == 8192) == (len != 0));
     let mut block = Block::new();
     write_tables(&mut block, &job, &lay).ok()?;

@@ -1,5 +1,5 @@
 // The positions of the parts of linked files, and what stands in their blocks.
-use super::{LOAD, Program, Row, USUAL, entry_of, file_of, linux, taken};
+use super::{LOAD, Program, Row, USUAL, apart, entry_of, file_of, linux, taken};
 use ap_check::check_all_in;
 use ap_claims::Block;
 use ap_elf::entries;
@@ -207,7 +207,7 @@ fn is_made(rt: &impl Abort, (program, areas, (end, total, ending), table): &Case
     let input = taken(rt, *program, 1).ok()?;
     let mut files = file_of(rt, *program);
     let job = check_all_in(&input, None, &linux(), &mut files, "a").ok()?;
-    let lay = place(&job);
+    let lay = place(&job, &apart());
     let positions = (lay.tables.as_slice(), lay.mach_at, lay.mach_len);
     assert!(rt; positions == ([96].as_slice(), 0, 0));
     assert!(rt; lay.body_end as usize == *end && lay.total == *total);

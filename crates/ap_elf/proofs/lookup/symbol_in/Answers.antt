@@ -8,6 +8,11 @@ value_in-requires-clause-seen g c =
     let read = rw c.in-Some.is at c.in_ok-seen.ensures in
     λ m b told at. read.1 m b (ap (λ (s : FileState). s.kept) (sym read.0) ∙ told) at
 
+pub marked_value_in-requires-clause-seen : goal.marked_value_in-requires-clause-seen
+marked_value_in-requires-clause-seen g c =
+    let read = rw c.in-Some.is at c.in_ok-seen.ensures in
+    λ m b told at. read.1 m b (ap (λ (s : FileState). s.kept) (sym read.0) ∙ told) at
+
 pub returns-in-None : goal.returns-in-None
 returns-in-None g c =
     let read = rw c.in-None.is at c.in_ok-seen.ensures in

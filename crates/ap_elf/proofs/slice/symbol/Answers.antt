@@ -1,6 +1,7 @@
 use Rattle.std.proofs.Common.{◌∙◌, ap, arith, length}
 use Rattle.ap_files.proofs.SliceLemmas.{slice_file, slice_told}
-use Rattle.ap_elf.specs.Symbols.{EndBelow, value_by}
+use Rattle.ap_elf.specs.Symbols.{EndBelow, value_by, symbols_from}
+use Rattle.ap_elf.proofs.Naming.{named-by-none}
 use Rattle.ap_elf.proofs.slice.symbol.Goals as goal
 
 pub symbol_in-requires : goal.symbol_in-requires
@@ -10,8 +11,11 @@ symbol_in-requires c =
     let symbols = ends.symbols in
     let strings = ends.strings in
     record {
-      small = record { symbols = omega arith; strings = omega arith };
-      told = slice_file {P = λ b. EndBelow (length b) t} c.args.b.now ends;
+      tables = record {
+        small = record { symbols = omega arith; strings = omega arith };
+        told = slice_file {P = λ b. EndBelow (length b) t} c.args.b.now ends;
+      };
+      named = λ m b told at. named-by-none (symbols_from b t.at t.count);
     }
 
 pub returns : goal.returns

@@ -1,4 +1,4 @@
-use Rattle.std.proofs.Common.{rules, ap, ◌∙◌, sym, subst, arith}
+use Rattle.std.proofs.Common.{rules, length, ap, ◌∙◌, sym, subst, arith}
 use Rattle.std.proofs.Math.ListN.{drop_of_length-le}
 use Rattle.std.proofs.lemmas.Bool.Decides.{nat_tests}
 use Rattle.ap_elf.specs.Machines.{granule_of}
@@ -8,7 +8,6 @@ use Rattle.ap_files.specs.Appends.{Appends}
 use Rattle.ap_files.proofs.Appending.{transfer-failed}
 use Rattle.ap_link.specs.Linked.{input_text}
 use Rattle.ap_link.proofs.AreaTexts.{load-here, area-here}
-use Rattle.ap_link.proofs.LaidAreas.{placed-count}
 use Rattle.ap_link.proofs.Writing.{writing-start, writing-here, writing-open, writing-range, writing-new, writing-old, writing-fails, writing-end}
 use Rattle.ap_link.proofs.areas.write_input.Goals as goal
 use Rattle.ap_link.proofs.areas.write_input.Goals.{then-is_new+in_ok-write_area, else-is_new}
@@ -17,9 +16,9 @@ pub loop-i-init : goal.loop-i-init
 loop-i-init g c =
     let loads-is = c.as_slice-loads.ensures.value ∙ ap (λ (i : Taken). i.loads) c.input.view_is in
     record {
-      count = placed-count c.args.input.now c.args.from c.as_slice-loads.result.now c.args.areas.now loads-is c.requires.areas;
+      count = ap length loads-is ∙ sym c.requires.count;
       written = writing-start (g.F.Files.state c.args.files.now) c.args.name.now c.args.out.now c.args.input.now c.granule-granule.result c.args.from c.as_slice-loads.result.now c.args.areas.now c.requires.out
-          (subst (λ (i : Taken). Meets i) c.input.view_is c.input.invariant) c.requires.small (c.granule-granule.ensures ∙ ap (λ (i : Taken). granule_of i.machine) c.input.view_is) loads-is c.requires.areas;
+          (c.granule-granule.ensures ∙ ap (λ (i : Taken). granule_of i.machine) c.input.view_is) loads-is (c.requires.next (subst (λ (i : Taken). Meets i) c.input.view_is c.input.invariant));
     }
 
 pub bounds-areas-i : goal.bounds-areas-i
@@ -46,7 +45,7 @@ returns-in_err-write_area g c =
     let h = writing-here _ _ _ _ _ _ _ _ _ _ _ _ _ _ (load-here c.as_slice-loads.result.now c.loop-i.i c.loop-i-test.true) (area-here c.args.areas.now c.loop-i.i _ c.loop-i-test.true c.loop-i.invariant.count) c.loop-i.invariant.written in
     let old = g.F.Files.state c.args.files.now in
     let new = g.F.Files.state c.write_area.new.files in
-    transfer-failed (Appends old new c.args.out.now (input_text c.args.from c.args.input.now (told_bytes old.kept c.args.name.now))) c.from_residual.result c.in_err-write_area.field-0.0 (search rules)
+    transfer-failed (Appends old new c.args.out.now (input_text c.args.from c.args.input.now (told_bytes old.kept c.args.name.now) c.args.areas.now)) c.from_residual.result c.in_err-write_area.field-0.0 (search rules)
     (writing-fails old _ new _ _ _ _ _ _ _ _ _ _ c.in_err-write_area.field-0.0 (sym c.is_new.ensures ∙ c.if-is_new.true) c.requires.readable.apart h c.in_err-write_area.ensures)
 
 pub loop-i-preserved : goal.loop-i-preserved

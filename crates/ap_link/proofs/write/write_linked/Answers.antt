@@ -18,8 +18,8 @@ returns-in-Err-append g c =
     let old = g.F.Files.state c.args.files.now in
     let mid = g.F.Files.state c.start.new.self in
     let new = g.F.Files.state c.append.new.files in
-    part-made old mid new c.args.out.now (c.args.block.now ++ tail_told old.kept c.args.sources.now.first c.args.sources.now.second) Write c.in_default.ensures
-    (broken mid new c.args.out.now c.args.block.now (tail_told old.kept c.args.sources.now.first c.args.sources.now.second) Write c.in-Err-append.ensures)
+    part-made old mid new c.args.out.now (c.args.block.now ++ tail_told old.kept c.args.sources.now.first c.args.sources.now.second c.args.lay.now.areas) Write c.in_default.ensures
+    (broken mid new c.args.out.now c.args.block.now (tail_told old.kept c.args.sources.now.first c.args.sources.now.second c.args.lay.now.areas) Write c.in-Err-append.ensures)
 
 pub write_inputs-requires-clause-sources : goal.write_inputs-requires-clause-sources
 write_inputs-requires-clause-sources g c =
@@ -40,9 +40,9 @@ returns-in_err-write_inputs g c =
     let first = c.args.sources.now.first in
     let second = c.args.sources.now.second in
     let f = c.in_err-write_inputs.field-0.0 in
-    transfer-failed (Makes old new c.args.out.now (c.args.block.now ++ tail_told old.kept first second)) c.from_residual.result f (search rules)
-    (part-made old mid new c.args.out.now (c.args.block.now ++ tail_told old.kept first second) f c.in_default.ensures
-    (block-behind old mid put new first second c.args.out.now c.args.block.now (Some f) c.in_default.ensures c.in_default-append.ensures c.requires.sources c.in_err-write_inputs.ensures))
+    transfer-failed (Makes old new c.args.out.now (c.args.block.now ++ tail_told old.kept first second c.args.lay.now.areas)) c.from_residual.result f (search rules)
+    (part-made old mid new c.args.out.now (c.args.block.now ++ tail_told old.kept first second c.args.lay.now.areas) f c.in_default.ensures
+    (block-behind old mid put new first second c.args.lay.now.areas c.args.out.now c.args.block.now (Some f) c.in_default.ensures c.in_default-append.ensures c.requires.sources c.in_err-write_inputs.ensures))
 
 pub finish-requires : goal.finish-requires
 finish-requires g c =
@@ -58,8 +58,8 @@ returns-in-Ok g c =
     let all = g.F.Files.state c.write_inputs.new.files in
     let first = c.args.sources.now.first in
     let second = c.args.sources.now.second in
-    made old mid all (g.F.Files.state c.finish.new.self) c.args.out.now (c.args.block.now ++ tail_told old.kept first second) (Ok tt) c.in_default.ensures
-    (block-behind old mid put all first second c.args.out.now c.args.block.now None c.in_default.ensures c.in_default-append.ensures c.requires.sources c.in_ok-write_inputs.ensures) c.in-Ok.ensures
+    made old mid all (g.F.Files.state c.finish.new.self) c.args.out.now (c.args.block.now ++ tail_told old.kept first second c.args.lay.now.areas) (Ok tt) c.in_default.ensures
+    (block-behind old mid put all first second c.args.lay.now.areas c.args.out.now c.args.block.now None c.in_default.ensures c.in_default-append.ensures c.requires.sources c.in_ok-write_inputs.ensures) c.in-Ok.ensures
 
 pub returns-in-Err-finish : goal.returns-in-Err-finish
 returns-in-Err-finish g c =
@@ -69,5 +69,5 @@ returns-in-Err-finish g c =
     let all = g.F.Files.state c.write_inputs.new.files in
     let first = c.args.sources.now.first in
     let second = c.args.sources.now.second in
-    made old mid all (g.F.Files.state c.finish.new.self) c.args.out.now (c.args.block.now ++ tail_told old.kept first second) (Err c.in-Err-finish.field-0) c.in_default.ensures
-    (block-behind old mid put all first second c.args.out.now c.args.block.now None c.in_default.ensures c.in_default-append.ensures c.requires.sources c.in_ok-write_inputs.ensures) c.in-Err-finish.ensures
+    made old mid all (g.F.Files.state c.finish.new.self) c.args.out.now (c.args.block.now ++ tail_told old.kept first second c.args.lay.now.areas) (Err c.in-Err-finish.field-0) c.in_default.ensures
+    (block-behind old mid put all first second c.args.lay.now.areas c.args.out.now c.args.block.now None c.in_default.ensures c.in_default-append.ensures c.requires.sources c.in_ok-write_inputs.ensures) c.in-Err-finish.ensures

@@ -1,5 +1,5 @@
 use Rattle.std.proofs.Common.{sym, subst}
-use Rattle.ap_run.specs.Words.{texts_of}
+use Rattle.ap_words.specs.Meaning.{texts_of}
 use Rattle.ap_run.specs.Ends.{IsComplete}
 use Rattle.ap_run.proofs.Complete.{complete}
 use Rattle.ap_run.proofs.ViewCells.{words-cells}

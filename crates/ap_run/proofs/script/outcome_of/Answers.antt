@@ -1,5 +1,5 @@
 use Rattle.std.proofs.Common.{rules}
-use Rattle.ap_run.specs.ScriptWords.{script_run}
+use Rattle.ap_run.specs.ScriptRuns.{script_run}
 use Rattle.ap_run.proofs.Scripts.{no-memory, answered}
 use Rattle.ap_run.proofs.script.outcome_of.Goals as goal
 

@@ -1,6 +1,6 @@
 use Rattle.std.proofs.Common.{subst}
 use Rattle.ap_run.specs.Scripted.{Scripted}
-use Rattle.ap_run.specs.ScriptWords.{script_run}
+use Rattle.ap_run.specs.ScriptRuns.{script_run}
 use Rattle.ap_run.specs.Shows.{Printed}
 use Rattle.ap_run.proofs.Showing.{ends-printed, ends-bare}
 use Rattle.ap_run.proofs.script.script.Goals as goal

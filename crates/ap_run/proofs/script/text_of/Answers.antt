@@ -1,6 +1,6 @@
 use Rattle.std.proofs.Common.{subst}
 use Rattle.ap_run.specs.Scripted.{RunsTo}
-use Rattle.ap_run.specs.ScriptWords.{script_run}
+use Rattle.ap_run.specs.ScriptRuns.{script_run}
 use Rattle.ap_run.specs.Whole.{MakesOf}
 use Rattle.ap_run.proofs.ReadWhole.{whole-unmeasured, whole-read}
 use Rattle.ap_run.proofs.script.text_of.Goals as goal

@@ -1,0 +1,5 @@
+pub mod Lengths
+mod Given
+mod Moves
+mod Plans
+pub mod Copied

@@ -1,0 +1,4 @@
+pub mod SystemNames
+pub mod Ranges
+pub mod Digits
+pub mod Asking
