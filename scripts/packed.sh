@@ -10,6 +10,11 @@ for tool in gcc rt python3 tar; do
         finish
     fi
 done
+if [ ! -f "${apetool%/*}/apetool.o" ]; then
+    # rt ci gives a program that an earlier run built without its object.
+    skip 'all' 'there is no apetool.o beside the program; scripts/build.sh makes it'
+    finish
+fi
 export TMPDIR=$work/tmp
 mkdir "$TMPDIR" "$work/out" "$work/row"
 check 'an archive is made' "$root/scripts/pack.sh" "$work/out"
