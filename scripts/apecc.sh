@@ -72,6 +72,16 @@ try_languages() {
     check 'an OUT that begins with -: it is made' made ./-dash "$machines" linux
 }
 
+# Before apetool is proved, scripts/try.sh links. It runs in a folder of its own, as this one does.
+try_unproved() {
+    mkdir "$work/before"
+    printf '#!/bin/sh\ncd / && exec "%s" "$@"\n' "$apetool" >"$work/before/try.sh"
+    chmod +x "$work/before/try.sh"
+    check 'before the proof: it is made' ends 0 env APECC_APETOOL="$work/before/try.sh" "$apecc" -o 'an out' 'a program.c'
+    check 'before the proof: apecc says so' grep -q '^apecc: the proved apetool is not built yet' "$work/said"
+    check 'before the proof: it runs' runs './an out' 2 $'100 <one>\n101 <two words>\n100 1\nnone' one 'two words'
+}
+
 try_shells() {
     local shell
     for shell in dash bash zsh mksh yash 'busybox sh'; do
@@ -221,6 +231,7 @@ try_starts() {
 }
 
 try_languages
+try_unproved
 try_shells
 try_starts
 try_options

@@ -14,7 +14,7 @@ work=$(mktemp -d) || exit 2
 trap 'rm -rf "$work"' EXIT
 
 if [ ! -x "$apetool" ]; then
-    echo "$name: there is no $apetool; 'rt run' in crates/apetool builds it"
+    echo "$name: there is no $apetool; scripts/build.sh builds it"
     echo '0 passed, 1 failed, 0 skipped'
     exit 1
 fi
@@ -49,6 +49,18 @@ is_there() { # TOOL
 
 link() { # OUT IN
     "$apetool" link --systems linux -o "$1" "$2"
+}
+
+# Whether the report on a file has its size, and the plans that load and map print of it.
+reports() { # FILE
+    local reading plan
+    "$apetool" inspect "$1" >"$work/report" && [ "$(head -n 1 "$work/report")" = "size $(stat -c %s "$1")" ] || return 1
+    for reading in 'ape-62 load' 'ape-183 load --machine aarch64' 'pe map --as pe'; do
+        # shellcheck disable=SC2086 # they are words
+        plan=$("$apetool" ${reading#* } "$1" 2>/dev/null)
+        [ "$plan" = "$(awk -v name="${reading%% *}" '$1 == "owner" { exit } $1 == "reading" { on = $2 == name; next } on' \
+            "$work/report")" ] || return 1
+    done
 }
 
 # Sets $took to the microseconds that a command takes, and fails as it does. The clock is that of bash 5.

@@ -261,6 +261,8 @@ def main(apetool, execs, rows, folder, *shells):
         for machines in [["x86-64"], ["aarch64"], ["x86-64", "aarch64"]]:
             if "x86-64" in machines or systems != "windows":
                 meaning.linked(systems, machines, files, HOSTS[number % 2 :: 2])
+    for machines in [["x86-64"], ["x86-64", "aarch64"], ["aarch64", "x86-64"]]:
+        meaning.linked(",".join([*UNIX, "windows"]), machines, files, HOSTS)
     for text, wanted, others in DIFFERENCES:
         meaning.differ(text, wanted, others)
     print(f"{meaning.passed} passed, {meaning.failed} failed, 0 skipped")

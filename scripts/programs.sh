@@ -44,6 +44,7 @@ check_shared() {
     made 'shared data' "gcc aarch64-linux-gnu-gcc $qemu" make_shared || return
     check 'shared data: they are linked' "$apetool" link --systems linux -o "$work/linked" "$a64" "$x64"
     check 'shared data: one area serves both machines' is_shared
+    check 'shared data: inspect tells what load prints' reports "$work/linked"
     check 'shared data: sh runs the program for x86-64' is_same "$x64" sh "$work/linked" "${words[@]}"
     cp "$work/linked" "$work/copy" && chmod 700 "$work/copy"
     t=$work/copy bash -c "$(grep -a "^printf '" "$work/linked" | tail -n 1)"

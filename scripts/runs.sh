@@ -193,6 +193,7 @@ check_examples() {
     sed 's/^/    /' "$work/said"
     local example
     for example in hello threads; do
+        check "the example $example: inspect tells of it what load and map print" reports "$work/examples/$example"
         check "the example $example: it runs in each shell as it does by itself" \
             same_in_shells "$work/examples/$example.x64" "$work/examples/$example"
         if [ -f "$work/examples/$example.a64" ] && is_there "$qemu"; then
@@ -219,7 +220,7 @@ check_readme() {
     else
         skip 'the commands by hand of docs/RUNS.md' 'there is no aarch64-linux-gnu-gcc'
     fi
-    block README.md 9 >"$work/wanted"
+    block README.md 8 >"$work/wanted"
     if [ "$("$apetool" inspect "$work/examples/threads" | head -n 1)" = "$(head -n 1 "$work/wanted")" ]; then
         check 'inspect prints what README.md shows' reports_as_said
     else

@@ -236,6 +236,7 @@ check_both() {
     check_linked 'with AArch64 first' "$work/both"
     check 'for all systems: it is linked' link_for linux,freebsd,netbsd,windows,mac "$work/both" "$program" "$arm"
     check_linked 'for all systems' "$work/both"
+    check 'for all systems: inspect tells what load and map print' reports "$work/both"
     check_qemu 'for all systems' "$work/both"
 }
 

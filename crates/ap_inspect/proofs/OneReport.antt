@@ -10,10 +10,10 @@ use Rattle.ap_octal.specs.declared.types.DdStatement.{DdStatement}
 use Rattle.ap_octal.proofs.OctalLemmas.{exact}
 use Rattle.ap_octal.proofs.EmbedLemmas.{closes-once}
 use Rattle.ap_inspect.specs.Fronts.{front_lines}
-use Rattle.ap_inspect.specs.StatementLines.{AreStatements, IsStatement, machine_of, statement_line, told_text}
+use Rattle.ap_inspect.specs.StatementLines.{AreStatements, IsStatement, machine_of, statement_line, pair_text}
 use Rattle.ap_octal.proofs.DdOnce.{dd-one, first-once}
 use Rattle.ap_inspect.specs.DdLines.{dd_line}
-use Rattle.ap_inspect.specs.Reports.{IsReport, answers_of, told_of}
+use Rattle.ap_inspect.specs.Reports.{IsReport, answers_of, answers_text}
 
 -- ---- the lines of statements
 
@@ -21,7 +21,7 @@ abbrev Told : List ℕ → ℕ → Option Decoded → Type 0
 Told file at x = MatchOption x (EmbedsNothing file at) (λ d. Tells file at d)
 
 abbrev line-of : ℕ → ℕ → List ℕ → List ℕ
-line-of at count first = codes "statement " ++ (decimal at ++ told_text count (machine_of first))
+line-of at count first = codes "statement " ++ (decimal at ++ pair_text count (machine_of first))
 
 decoded-one : (file : List ℕ) (at : ℕ) (x y : Option Decoded) → Told file at x → Told file at y → statement_line at x ≡ statement_line at y
 unfolding statement_line
@@ -70,7 +70,7 @@ statements-one file _ _ b (AreStatements.some from at line lines before opens is
 -- ---- the report
 
 abbrev text-of : List ℕ → List ℕ → Option DdStatement → List ℕ
-text-of file statements dd = front_lines file ++ (statements ++ (dd_line dd ++ told_of file dd (answers_of file dd)))
+text-of file statements dd = front_lines file ++ (statements ++ (dd_line dd ++ answers_text file dd (answers_of file dd)))
 
 pub one-report : (file a b : List ℕ) → IsReport file a → IsReport file b → a ≡ b
 one-report file a b h k =

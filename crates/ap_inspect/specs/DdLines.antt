@@ -1,12 +1,12 @@
 -- The line of a report on the `dd` statement of a file.
 use Rattle.std.specs.Prelude.{true, List, ℕ, ◌++◌, codes, decimal, Option, Some, None}
-use Rattle.ap_inspect.specs.StatementLines.{told_text}
+use Rattle.ap_inspect.specs.StatementLines.{pair_text}
 use Rattle.ap_octal.specs.DdEffect.{dd_effect}
 use Rattle.ap_octal.specs.declared.types.DdStatement.{DdStatement}
 
 unfoldable pub numbers_line : DdStatement → List ℕ
 numbers_line s =
-    codes "dd " ++ (decimal s.at ++ (codes " " ++ (decimal s.size ++ told_text s.skip s.count)))
+    codes "dd " ++ (decimal s.at ++ (codes " " ++ (decimal s.size ++ pair_text s.skip s.count)))
 
 abbrev pub dd_line : Option DdStatement → List ℕ
 dd_line None = codes "dd none\n"

@@ -5,7 +5,7 @@ use Rattle.ap_mach.specs.declared.fault.MachFault.{MachFault}
 use Rattle.ap_loader.specs.declared.fault.ApeFault.{ApeFault}
 use Rattle.ap_loader.specs.declared.fault.ApeFault.TheVariants as ape
 use Rattle.ap_image.specs.Plans.{Mapping}
-use Rattle.ap_inspect.specs.StatementLines.{told_text}
+use Rattle.ap_inspect.specs.StatementLines.{pair_text}
 use Rattle.ap_texts.specs.CauseNames.{cause_name, pe_cause_name, mach_cause_name}
 use Rattle.ap_texts.specs.PlanTexts.{plan_text}
 
@@ -16,7 +16,7 @@ ok_text name m = codes "reading " ++ (name ++ (codes " ok\n" ++ plan_text m))
 -- a reading that refuses the file, by a cause's name, an item and a value
 unfoldable pub fault_text : List ℕ → List ℕ → ℕ → ℕ → List ℕ
 fault_text name cause item value =
-    codes "reading " ++ (name ++ (codes " " ++ (cause ++ told_text item value)))
+    codes "reading " ++ (name ++ (codes " " ++ (cause ++ pair_text item value)))
 
 abbrev pub pe_text : Result Mapping PeFault → List ℕ
 pe_text (Ok m) = ok_text (codes "pe") m

@@ -50,8 +50,8 @@ owners_text file dd a =
     ++ (statement_owners file a ++ (table_owners file a ++ mapped_owners (length file) dd a)))
 
 -- what its readings say of a file, and whose its bytes are
-abbrev pub told_of : List ℕ → Option DdStatement → Answers → List ℕ
-told_of file dd a = readings_text a ++ owners_text file dd a
+abbrev pub answers_text : List ℕ → Option DdStatement → Answers → List ℕ
+answers_text file dd a = readings_text a ++ owners_text file dd a
 
 -- a text is the report on a file
 pub record IsReport (file text : List ℕ) : Type 0 where
@@ -59,4 +59,4 @@ pub record IsReport (file text : List ℕ) : Type 0 where
   pub dd : Option DdStatement
   pub are_statements : AreStatements file 0 statements
   pub is_dd : IsDd file dd
-  pub lines : text ≡ front_lines file ++ (statements ++ (dd_line dd ++ told_of file dd (answers_of file dd)))
+  pub lines : text ≡ front_lines file ++ (statements ++ (dd_line dd ++ answers_text file dd (answers_of file dd)))

@@ -12,13 +12,13 @@ abbrev pub machine_of : List ℕ → ℕ
 machine_of first = if starts_with nat_eq first (127 ∷ 69 ∷ 76 ∷ 70 ∷ []) then number_at 2 18 first else 0
 
 -- how many bytes it embeds, and for which machine
-abbrev pub told_text : ℕ → ℕ → List ℕ
-told_text count machine = codes " " ++ (decimal count ++ (codes " " ++ (decimal machine ++ codes "\n")))
+abbrev pub pair_text : ℕ → ℕ → List ℕ
+pair_text count machine = codes " " ++ (decimal count ++ (codes " " ++ (decimal machine ++ codes "\n")))
 
 -- what a statement embeds
 abbrev pub decoded_text : Option Decoded → List ℕ
 decoded_text None = codes " none\n"
-decoded_text (Some d) = told_text d.count (machine_of d.first)
+decoded_text (Some d) = pair_text d.count (machine_of d.first)
 
 unfoldable pub statement_line : ℕ → Option Decoded → List ℕ
 statement_line at decoded = codes "statement " ++ (decimal at ++ decoded_text decoded)

@@ -2,7 +2,7 @@
 ghost use Rattle.std.specs.Prelude.{◌≡◌, ◌++◌, OnOk};
 ghost use Rattle.ap_inspect.specs.DdLines.{dd_line, numbers_line};
 
-use crate::statements::push_told;
+use crate::statements::push_pair;
 use ap_octal::DdStatement;
 use ap_texts::push_decimal;
 use std::alloc::AllocError;
@@ -25,5 +25,5 @@ fn push_numbers(text: &mut Vec<u8>, statement: &DdStatement) -> Result<(), Alloc
     push_decimal(text, statement.at as u64)?;
     text.extend_from_slice(b" ")?;
     push_decimal(text, statement.size as u64)?;
-    push_told(text, statement.skip as u64, statement.count as u64)
+    push_pair(text, statement.skip as u64, statement.count as u64)
 }

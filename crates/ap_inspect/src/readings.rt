@@ -2,7 +2,7 @@
 ghost use Rattle.std.specs.Prelude.{◌≡◌, ◌++◌, OnOk};
 ghost use Rattle.ap_inspect.specs.ReadingTexts.{ape_fault_text, ape_text, fault_text, mach_text, ok_text, pe_text};
 
-use crate::statements::push_told;
+use crate::statements::push_pair;
 use ap_image::Plan;
 use ap_loader::ApeFault;
 use ap_machmap::MachFault;
@@ -89,5 +89,5 @@ fn push_fault(
     text.extend_from_slice(name)?;
     text.extend_from_slice(b" ")?;
     text.extend_from_slice(cause)?;
-    push_told(text, item as u64, value)
+    push_pair(text, item as u64, value)
 }

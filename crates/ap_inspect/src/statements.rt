@@ -44,7 +44,7 @@ fn push_line(text: &mut Vec<u8>, at: usize, decoded: &Option<Decoded>) -> Result
     push_decimal(text, at as u64)?;
     match decoded {
         None => text.extend_from_slice(b" none\n"),
-        Some(decoded) => push_told(
+        Some(decoded) => push_pair(
             text,
             decoded.count as u64,
             machine_of(&decoded.first) as u64,
@@ -53,8 +53,8 @@ fn push_line(text: &mut Vec<u8>, at: usize, decoded: &Option<Decoded>) -> Result
 }
 
 #[tactic(auto, using(std::proofs::Common::append_assoc))]
-pub(crate) fn push_told(text: &mut Vec<u8>, count: u64, machine: u64) -> Result<(), AllocError>
-    ensures { OnOk result (text.new.items ≡ text.old.items ++ spec.told_text count machine) }
+pub(crate) fn push_pair(text: &mut Vec<u8>, count: u64, machine: u64) -> Result<(), AllocError>
+    ensures { OnOk result (text.new.items ≡ text.old.items ++ spec.pair_text count machine) }
 {
     text.extend_from_slice(b" ")?;
     push_decimal(text, count)?;

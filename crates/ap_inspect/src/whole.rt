@@ -4,7 +4,7 @@ ghost use Rattle.ap_octal.specs.DdPlace.{IsDd};
 ghost use Rattle.ap_inspect.specs.DdLines.{dd_line};
 ghost use Rattle.ap_inspect.specs.Fronts.{front_lines};
 ghost use Rattle.ap_inspect.specs.StatementLines.{AreStatements};
-ghost use Rattle.ap_inspect.specs.Reports.{IsReport, answers_of, mapped_owners, owners_text, readings_text, statement_owners, table_owners, told_of};
+ghost use Rattle.ap_inspect.specs.Reports.{IsReport, answers_of, mapped_owners, owners_text, readings_text, statement_owners, table_owners, answers_text};
 
 use crate::asked::{Answers, ask};
 use crate::dd::push_dd;
@@ -39,7 +39,7 @@ fn text_of(alloc: Global, file: &[u8]) -> Result<Vec<u8>, AllocError>
     let answers = ask(alloc, file, &dd)?;
     let mut text = Vec::new(alloc);
     push_window(&mut text, file, &dd)?;
-    push_told(&mut text, file, &dd, &answers)?;
+    push_answers(&mut text, file, &dd, &answers)?;
     Ok(text)
 }
 
@@ -56,14 +56,14 @@ fn push_window(text: &mut Vec<u8>, file: &[u8], dd: &Option<DdStatement>) -> Res
 
 // Appends what its readings say, and whose its bytes are.
 #[tactic(auto, using(std::proofs::Common::append_assoc))]
-fn push_told(
+fn push_answers(
     text: &mut Vec<u8>,
     file: &[u8],
     dd: &Option<DdStatement>,
     answers: &Answers,
 ) -> Result<(), AllocError>
     requires { answers.now ≡ answers_of file.now dd.now }
-    ensures { OnOk result (text.new.items ≡ text.old.items ++ told_of file.now dd.now answers.now) }
+    ensures { OnOk result (text.new.items ≡ text.old.items ++ answers_text file.now dd.now answers.now) }
 {
     push_readings(text, answers)?;
     push_owners(text, file, dd, answers)

@@ -1,13 +1,11 @@
 -- How a file is dumped, step by step.
-use Rattle.std.proofs.Common.{◌≡◌, inl, ℕ, ◌^◌, ◌<◌, ◌≤◌, true, false, cond, List, length, Vec, Some, Result, Ok, Err, refl, sym, ap, ◌∙◌, subst, arith}
+use Rattle.std.proofs.Common.{◌≡◌, ℕ, ◌^◌, ◌<◌, ◌≤◌, true, false, cond, List, length, Vec, Some, Result, Ok, Err, refl, sym, ap, ◌∙◌, subst, arith}
 use Rattle.std.specs.Prelude.{nat_lt}
 use Rattle.std.specs.declared.alloc.Global.{Global}
 use Rattle.std.proofs.lemmas.Bool.Decides.{nat_tests}
 use Rattle.ap_fields.specs.Readings.{bytes_in}
 use Rattle.ap_files.specs.Files.{FileState}
 use Rattle.ap_files.specs.Sinks.{SinkState}
-use Rattle.ap_files.specs.Reads as reads
-use Rattle.ap_files.specs.Reads.{HasFile, HasSize, ReadFails}
 use Rattle.ap_files.specs.Appends.{IsMade, Makes}
 use Rattle.ap_files.specs.declared.failure.FileFault.TheVariants.{Write}
 use Rattle.ap_image.specs.Plans.{Mapping, Imaged}
@@ -20,9 +18,9 @@ use Rattle.ap_run.specs.declared.format.Format.{Format}
 use Rattle.ap_run.specs.declared.dump.Parts.{Parts}
 use Rattle.ap_texts.specs.PlanTexts.{plan_text}
 use Rattle.ap_run.specs.Formats.{plan_in}
-use Rattle.ap_run.specs.Fetches.{Measured}
+use Rattle.ap_run.specs.Fetches.{Fetches}
 use Rattle.ap_run.specs.Shows.{Printed}
-use Rattle.ap_run.specs.Dumps.{Dumped, dumped_by, dumped_in, dumped_as, IsDumped, DumpEnds, Fetches, ArePartsOf, MakesParts}
+use Rattle.ap_run.specs.Dumps.{Dumped, dumped_by, dumped_in, dumped_as, IsDumped, DumpEnds, ArePartsOf, MakesParts}
 
 -- a file that isn't longer than 2^30 bytes, and one that is
 dumped-small : (format : Format) (b : List ℕ) → length b ≤ 2 ^ 30 → dumped_in format b ≡ dumped_by b (plan_in format b)
@@ -46,38 +44,6 @@ dumped-narrow : (b : List ℕ) (m : Mapping) → total_of m.regions ≤ 2 ^ 30 �
 dumped-narrow b m narrow =
     let f : nat_lt (2 ^ 30) (total_of m.regions) ≡ false = grind (arith, nat_tests) in
     ap (λ t. cond t (Err (fault.Wide (total_of m.regions))) (Ok (record { image = image_file (bytes_in b) m; text = plan_text m }))) f
-
--- a file that isn't read
-pub unmeasured : (old new : FileState) (name : List ℕ) (cause : Cause) → Measured old new name (Err cause) → Fetches old new name (Err cause)
-unmeasured old new name (Unread (fault.Large size)) h = (h.0, λ m k. let t = h.2 m k in (t.0, t.1, ((let l = h.1 in let e = t.2 in omega arith), ap (λ n. fault.Large n) t.2)))
-unmeasured old new name (Unread (fault.Wide total)) h = absurd h
-unmeasured old new name (Unread (fault.Elf f)) h = absurd h
-unmeasured old new name (Unread (fault.Ape f)) h = absurd h
-unmeasured old new name (Unread (fault.Pe f)) h = absurd h
-unmeasured old new name (Unread (fault.Mach f)) h = absurd h
-unmeasured old new name (Unread (fault.Walk f)) h = absurd h
-unmeasured old new name (Unread (fault.Shell at)) h = absurd h
-unmeasured old new name (Unread fault.NotApe) h = absurd h
-unmeasured old new name (Unread fault.NoStatement) h = absurd h
-unmeasured old new name ReadFault h = h
-unmeasured old new name Done h = absurd h
-unmeasured old new name (Refused f) h = absurd h
-unmeasured old new name Usage h = absurd h
-unmeasured old new name (Unbuilt word) h = absurd h
-unmeasured old new name WriteFault h = absurd h
-unmeasured old new name OutFault h = absurd h
-unmeasured old new name NoMemory h = absurd h
-
-pub fetched : (old mid new : FileState) (name : List ℕ) (size : ℕ) (bytes : Vec ℕ Global) → (mid ≡ old) × (size ≤ 2 ^ 30) × HasSize old.kept name size → (new ≡ mid) × HasFile mid.kept name (λ b. bytes.items ≡ b)
-    → length bytes.items ≡ size → Fetches old new name (Ok bytes)
-fetched old mid new name size bytes h f long = (
-  f.0 ∙ h.0,
-  (let l = h.1 in omega arith),
-  subst (λ (s : FileState). HasFile s.kept name (λ b. bytes.items ≡ b)) h.0 f.1,
-)
-
-pub not-fetched : (old mid new : FileState) (name : List ℕ) → mid ≡ old → ReadFails mid new → Fetches old new name (Err ReadFault)
-not-fetched old mid new name same f = subst (λ s. reads.Unread s new name) same (record { files = f.files; write_faults = f.write_faults; cause = inl f.rose })
 
 -- what is made of the bytes
 pub parts-refused : (format : Format) (b : List ℕ) (f : ReadingFault) → Err f ≡ plan_in format b → MakesParts format b (Err (Unread f))

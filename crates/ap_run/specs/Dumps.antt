@@ -54,14 +54,6 @@ DumpEnds old new before after format name image (Refused f) = ⊥
 DumpEnds old new before after format name image Usage = ⊥
 DumpEnds old new before after format name image (Unbuilt word) = ⊥
 
--- the bytes of a file, of which there may be 2^30, or why they aren't read
-abbrev pub Fetches : FileState → FileState → List ℕ → Result (Vec ℕ Global) Cause → Type 0
-Fetches old new name (Ok bytes) = (new ≡ old) × (length bytes.items ≤ 2 ^ 30) × HasFile old.kept name (λ b. bytes.items ≡ b)
-Fetches old new name (Err (Unread f)) = (new ≡ old) × HasFile old.kept name (λ b. (2 ^ 30 < length b) × (f ≡ fault.Large (length b)))
-Fetches old new name (Err ReadFault) = reads.Unread old new name
-Fetches old new name (Err NoMemory) = new ≡ old
-Fetches old new name (Err _) = ⊥
-
 -- what is made of a plan over a file
 pub record ArePartsOf (whole : Imaged) (parts : Parts) : Type 0 where
   pub image : parts.image ≡ whole

@@ -8,10 +8,10 @@ ghost use Rattle.ap_run.specs.Whole.{MakesOf};
 ghost use Rattle.ap_run.specs.Writes.{WriteEnds};
 
 use crate::end::{Cause, ReadingFault};
-use crate::fetch::measure;
+use crate::fetch::fetch;
 use ap_assim::{AssimFault, become_elf, become_mach};
 use ap_elf::Machine;
-use ap_files::{Files, ReadAllFault, read_all, write_all};
+use ap_files::{Files, write_all};
 use ap_words::Form;
 use std::alloc::Global;
 
@@ -50,14 +50,9 @@ fn bytes_of<F: Files>(
     ensures { Answers (F.state files.old) (F.state files.new) (Assimilated form machine) name.now
         result }
 {
-    let size = match measure(files, name) {
-        Ok(size) => size,
-        Err(cause) => return Err(cause),
-    };
-    match read_all(alloc, files, name, size as usize) {
+    match fetch(alloc, files, name) {
         Ok(file) => made_of(form, machine, file),
-        Err(ReadAllFault::NoMemory) => Err(Cause::NoMemory),
-        Err(ReadAllFault::Read) => Err(Cause::ReadFault),
+        Err(cause) => Err(cause),
     }
 }
 

@@ -2,14 +2,14 @@
 ghost use Rattle.std.specs.Prelude.{◌≡◌, ◌≤◌, ◌^◌, length, IfOk};
 ghost use Rattle.ap_elf.specs.Machines.{IsPage};
 ghost use Rattle.ap_image.specs.Plans.{AreBacked};
-ghost use Rattle.ap_run.specs.Dumps.{ArePartsOf, DumpEnds, Fetches, MakesParts};
+ghost use Rattle.ap_run.specs.Dumps.{ArePartsOf, DumpEnds, MakesParts};
 
 use crate::end::{Cause, ReadingFault};
-use crate::fetch::measure;
+use crate::fetch::fetch;
 use crate::format::Format;
 use crate::planned::plan_over;
 use crate::show::print_text;
-use ap_files::{Files, NoMemory, ReadAllFault, Sink, read_all};
+use ap_files::{Files, NoMemory, Sink};
 use ap_image::{Image, Plan, address_count, image_front, write_image};
 use ap_texts::plan_text;
 use std::alloc::Global;
@@ -42,7 +42,7 @@ pub fn dump<F: Files, O: Sink>(
     ensures { DumpEnds (F.state files.old) (F.state files.new) (O.state out.old) (O.state out.new)
         format.now name.now image.now result }
 {
-    let file = match bytes_of(alloc, files, name) {
+    let file = match fetch(alloc, files, name) {
         Ok(file) => file,
         Err(cause) => return cause,
     };
@@ -53,21 +53,6 @@ pub fn dump<F: Files, O: Sink>(
     match write_image(files, image, &parts.front, &parts.image) {
         Ok(()) => print_text(out, &parts.text),
         Err(_) => Cause::WriteFault,
-    }
-}
-
-// The bytes of a file, of which there may be 2^30, or why they aren't read.
-fn bytes_of<F: Files>(alloc: Global, files: &mut F, name: &str) -> Result<Vec<u8>, Cause>
-    ensures { Fetches (F.state files.old) (F.state files.new) name.now result }
-{
-    let size = match measure(files, name) {
-        Ok(size) => size,
-        Err(cause) => return Err(cause),
-    };
-    match read_all(alloc, files, name, size as usize) {
-        Ok(file) => Ok(file),
-        Err(ReadAllFault::NoMemory) => Err(Cause::NoMemory),
-        Err(ReadAllFault::Read) => Err(Cause::ReadFault),
     }
 }
 

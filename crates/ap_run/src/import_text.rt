@@ -4,8 +4,7 @@ ghost use Rattle.ap_run.specs.ImportTexts.{import_line, imports_text, wanted_tex
 
 use crate::byte_text::push_bytes;
 use ap_image::{Import, Wanted};
-use ap_texts::push_hex;
-use itoa::Buffer;
+use ap_texts::{push_decimal, push_hex};
 use std::alloc::AllocError;
 
 /// Appends a line for each import: the DLL's name, what is imported of it, and the address of its slot in 16 hexadecimal digits.
@@ -40,9 +39,8 @@ fn push_wanted(text: &mut Vec<u8>, what: &Wanted) -> Result<(), AllocError>
     match what {
         Wanted::Name { name } => push_bytes(text, name.as_slice()),
         Wanted::Ordinal { number } => {
-            let mut buffer = Buffer::new();
             text.extend_from_slice(b"#")?;
-            text.extend_from_slice(buffer.format(*number as u64).as_bytes())
+            push_decimal(text, *number as u64)
         }
     }
 }

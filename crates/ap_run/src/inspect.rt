@@ -4,9 +4,9 @@ ghost use Rattle.ap_run.specs.Shows.{Answers, Ends};
 ghost use Rattle.ap_run.specs.Whole.{MakesOf};
 
 use crate::end::Cause;
-use crate::fetch::measure;
+use crate::fetch::fetch;
 use crate::show::print_text;
-use ap_files::{Files, ReadAllFault, Sink, read_all};
+use ap_files::{Files, Sink};
 use ap_inspect::report;
 use std::alloc::Global;
 
@@ -25,14 +25,9 @@ pub fn inspect<F: Files, O: Sink>(alloc: Global, files: &mut F, out: &mut O, nam
 fn text_of<F: Files>(alloc: Global, files: &mut F, name: &str) -> Result<Vec<u8>, Cause>
     ensures { Answers (F.state files.old) (F.state files.new) Inspected name.now result }
 {
-    let size = match measure(files, name) {
-        Ok(size) => size,
-        Err(cause) => return Err(cause),
-    };
-    match read_all(alloc, files, name, size as usize) {
+    match fetch(alloc, files, name) {
         Ok(file) => told(alloc, &file),
-        Err(ReadAllFault::NoMemory) => Err(Cause::NoMemory),
-        Err(ReadAllFault::Read) => Err(Cause::ReadFault),
+        Err(cause) => Err(cause),
     }
 }
 

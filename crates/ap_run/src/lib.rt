@@ -7,7 +7,7 @@ mod line; // the line that says why
 mod link; // files that are linked
 mod format; // the formats that files are read by
 mod planned; // the plan of a file, by its name
-mod fetch; // the length of a file
+mod fetch; // the bytes of a file
 mod show; // a file that is shown
 mod dump; // the same, with its image file
 mod listing; // a file that is shown with its imports

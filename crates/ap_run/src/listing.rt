@@ -6,9 +6,9 @@ ghost use Rattle.ap_run.specs.ImportTexts.{imports_text};
 ghost use Rattle.ap_texts.specs.PlanTexts as spec;
 
 use crate::end::{Cause, ReadingFault};
-use crate::fetch::measure;
+use crate::fetch::fetch;
 use crate::import_text::push_imports;
-use ap_files::{Files, ReadAllFault, read_all};
+use ap_files::Files;
 use ap_image::{Import, Plan, Reading};
 use ap_pemap::{ImportFault, PeReading, imports};
 use ap_texts::plan_text;
@@ -18,14 +18,9 @@ use std::alloc::{AllocError, Global};
 pub fn listing_of<F: Files>(alloc: Global, files: &mut F, name: &str) -> Result<Vec<u8>, Cause>
     ensures { Answers (F.state files.old) (F.state files.new) (Sized Lists) name.now result }
 {
-    let size = match measure(files, name) {
-        Ok(size) => size,
-        Err(cause) => return Err(cause),
-    };
-    match read_all(alloc, files, name, size as usize) {
+    match fetch(alloc, files, name) {
         Ok(file) => listed(alloc, &file),
-        Err(ReadAllFault::NoMemory) => Err(Cause::NoMemory),
-        Err(ReadAllFault::Read) => Err(Cause::ReadFault),
+        Err(cause) => Err(cause),
     }
 }
 

@@ -6,7 +6,7 @@ ghost use Rattle.ap_run.specs.Outcomes.{word_line};
 
 use crate::byte_text::push_bytes;
 use ap_shell::Outcome;
-use itoa::Buffer;
+use ap_texts::push_decimal;
 use sqlite_items::Items;
 use std::alloc::{AllocError, Global};
 
@@ -36,10 +36,9 @@ fn execs_text(alloc: Global, path: &[u8], words: &[Items<u8>]) -> Result<Vec<u8>
 fn exits_text(alloc: Global, status: u8) -> Result<Vec<u8>, AllocError>
     ensures { IfOk result (λ text. text.items ≡ spec.outcome_text (Exits status)) }
 {
-    let mut buffer = Buffer::new();
     let mut text = Vec::new(alloc);
     text.extend_from_slice(b"exits ")?;
-    text.extend_from_slice(buffer.format(status as u64).as_bytes())?;
+    push_decimal(&mut text, status as u64)?;
     text.extend_from_slice(b"\n")?;
     Ok(text)
 }

@@ -7,11 +7,11 @@ ghost use Rattle.ap_run.specs.Shows.{Answers, Ends};
 ghost use Rattle.ap_run.specs.Whole.{MakesOf};
 
 use crate::end::{Cause, ReadingFault};
-use crate::fetch::measure;
+use crate::fetch::fetch;
 use crate::outcome::outcome_text;
 use crate::script_run::ScriptRun;
 use crate::show::print_text;
-use ap_files::{Files, ReadAllFault, Sink, read_all};
+use ap_files::{Files, Sink};
 use ap_shell::{Env, Host, HostFile, Outcome, run_script};
 use ap_shparse::ShellFault;
 use sqlite_items::Items;
@@ -42,14 +42,9 @@ fn text_of<F: Files>(alloc: Global, files: &mut F, run: &ScriptRun<'_>) -> Resul
     ensures { Answers (F.state files.old) (F.state files.new) (Scripted (script_run run.now))
         run.now.file.now result }
 {
-    let size = match measure(files, run.file) {
-        Ok(size) => size,
-        Err(cause) => return Err(cause),
-    };
-    match read_all(alloc, files, run.file, size as usize) {
+    match fetch(alloc, files, run.file) {
         Ok(file) => told(alloc, run, &file),
-        Err(ReadAllFault::NoMemory) => Err(Cause::NoMemory),
-        Err(ReadAllFault::Read) => Err(Cause::ReadFault),
+        Err(cause) => Err(cause),
     }
 }
 

@@ -6,8 +6,14 @@ ghost use Rattle.ap_trial.specs.TrialInputs.{headers_text, trial_header, trial_l
 
 use crate::places::{FIRST, places_of};
 use crate::push::push_zeros;
+use ap_elf::constants::{
+    EHDR_SIZE, ET_EXEC, EV_CURRENT, PF_R, PF_W, PF_X, PHDR_SIZE, PT_LOAD, SHDR_SIZE,
+};
 use ap_elf::{Entry, Header, Machine, entry_bytes, header_bytes};
 use std::alloc::AllocError;
+
+// The bytes of the header and of the three program headers.
+const HEADERS: u64 = (EHDR_SIZE + 3 * PHDR_SIZE) as u64;
 
 // Appends the headers of the file and of its loads, up to the first granule.
 #[tactic(auto, using(std::proofs::Common::append_assoc), unfolding(crate::specs::TrialInputs::headers_text))]
@@ -21,7 +27,7 @@ pub(crate) fn push_headers(
 {
     out.extend_from_slice(&header_bytes(&header(pages, machine)))?;
     push_loads(out, pages, machine)?;
-    push_zeros(out, machine.granule() - 232)
+    push_zeros(out, machine.granule() - HEADERS)
 }
 
 #[tactic(auto, unfolding(crate::specs::TrialInputs::trial_header))]
@@ -31,17 +37,17 @@ fn header(pages: u32, machine: Machine) -> Header
 {
     Header {
         ident: [0x7f, b'E', b'L', b'F', 2, 1, 1, 0, 0, 0, 0, 0, 0, 0, 0, 0],
-        e_type: 2,
+        e_type: ET_EXEC,
         e_machine: machine.number(),
-        e_version: 1,
+        e_version: EV_CURRENT as u32,
         e_entry: FIRST,
-        e_phoff: 64,
-        e_shoff: places_of(pages, machine).tables + 64,
+        e_phoff: EHDR_SIZE as u64,
+        e_shoff: places_of(pages, machine).tables_place + 64,
         e_flags: 0,
-        e_ehsize: 64,
-        e_phentsize: 56,
+        e_ehsize: EHDR_SIZE as u16,
+        e_phentsize: PHDR_SIZE as u16,
         e_phnum: 3,
-        e_shentsize: 64,
+        e_shentsize: SHDR_SIZE as u16,
         e_shnum: 3,
         e_shstrndx: 0,
     }
@@ -68,9 +74,9 @@ pub(crate) fn loads_of(pages: u32, machine: Machine) -> [Entry; 3]
     let p = places_of(pages, machine);
     let g = machine.granule();
     [
-        load(g, g, FIRST, (p.part, p.part), 5),
-        load(g, p.next, p.second, (4096, 9096), 6),
-        load(g, 0, p.third, (0, 10000), 6),
+        load(g, g, FIRST, (p.part_length, p.part_length), PF_R + PF_X),
+        load(g, p.data_place, p.data_address, (4096, 9096), PF_R + PF_W),
+        load(g, 0, p.rest_address, (0, 10000), PF_R + PF_W),
     ]
 }
 
@@ -79,7 +85,7 @@ fn load(align: u64, offset: u64, vaddr: u64, sizes: (u64, u64), flags: u32) -> E
     ensures { result ≡ trial_load align offset vaddr sizes.0 sizes.1 flags }
 {
     Entry {
-        kind: 1,
+        kind: PT_LOAD,
         flags,
         offset,
         vaddr,

@@ -49,7 +49,7 @@ fn push_input(
     push_headers(out, pages, machine)?;
     push_parts(out, number, pages, machine)?;
     push_symbols(out)?;
-    push_sections(out, places_of(pages, machine).tables)
+    push_sections(out, places_of(pages, machine).tables_place)
 }
 
 #[tactic(auto, using(std::proofs::Common::append_assoc), unfolding(crate::specs::TrialInputs::loads_text))]
@@ -65,7 +65,7 @@ fn push_parts(
 {
     let p = places_of(pages, machine);
     let mut x = number;
-    push_drawn(out, &mut x, p.part)?;
-    push_zeros(out, p.room - p.part)?;
+    push_drawn(out, &mut x, p.part_length)?;
+    push_zeros(out, p.part_room - p.part_length)?;
     push_drawn(out, &mut x, 4096)
 }

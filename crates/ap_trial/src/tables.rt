@@ -3,9 +3,14 @@ ghost use Rattle.std.specs.Prelude.{◌≡◌, ◌<◌, ◌+◌, ◌++◌, ◌^�
 ghost use Rattle.ap_fields.specs.Structures.{structure};
 ghost use Rattle.ap_trial.specs.TrialInputs.{names_text, symbols_text, sections_text, symbol_rows, symbols_rows, strings_rows};
 
+use crate::places::FIRST;
 use crate::push::push_zeros;
+use ap_elf::constants::{SHT_STRTAB, SHT_SYMTAB, SYM_SIZE};
 use ap_fields::{put16, put32, put64};
 use std::alloc::AllocError;
+
+// The section number of a symbol whose value is absolute (`st_shndx`).
+const SHN_ABS: u16 = 0xfff1;
 
 pub(crate) fn push_symbols(out: &mut Vec<u8>) -> Result<(), AllocError>
     ensures { OnOk result (out.new.items ≡ out.old.items ++ symbols_text) }
@@ -32,8 +37,8 @@ fn symbol() -> [u8; 24]
 {
     let mut bytes = [0; 24];
     put32(&mut bytes, 0, 1);
-    put16(&mut bytes, 6, 0xfff1);
-    put64(&mut bytes, 8, 0x400010);
+    put16(&mut bytes, 6, SHN_ABS);
+    put64(&mut bytes, 8, FIRST + 16);
     bytes
 }
 
@@ -63,11 +68,11 @@ fn symbol_section(at: u64) -> [u8; 64]
     ensures { result ≡ structure 64 0 (symbols_rows at) }
 {
     let mut bytes = [0; 64];
-    put32(&mut bytes, 4, 2);
+    put32(&mut bytes, 4, SHT_SYMTAB);
     put64(&mut bytes, 24, at);
     put64(&mut bytes, 32, 48);
     put32(&mut bytes, 40, 2);
-    put64(&mut bytes, 56, 24);
+    put64(&mut bytes, 56, SYM_SIZE as u64);
     bytes
 }
 
@@ -75,7 +80,7 @@ fn name_section(at: u64) -> [u8; 64]
     ensures { result ≡ structure 64 0 (strings_rows at) }
 {
     let mut bytes = [0; 64];
-    put32(&mut bytes, 4, 3);
+    put32(&mut bytes, 4, SHT_STRTAB);
     put64(&mut bytes, 24, at);
     put64(&mut bytes, 32, 14);
     bytes

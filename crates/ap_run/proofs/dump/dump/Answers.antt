@@ -6,17 +6,17 @@ use Rattle.ap_run.proofs.dump.dump.Goals as goal
 
 pub returns-in-Err : goal.returns-in-Err
 returns-in-Err g c =
-    dump-unread (g.F.Files.state c.args.files.now) (g.F.Files.state c.bytes_of.new.files) (g.O.Sink.state c.args.out.now) c.args.format.now c.args.name.now c.args.image.now c.in-Err.cause c.in-Err.ensures
+    dump-unread (g.F.Files.state c.args.files.now) (g.F.Files.state c.fetch.new.files) (g.O.Sink.state c.args.out.now) c.args.format.now c.args.name.now c.args.image.now c.in-Err.cause c.in-Err.ensures
 
 pub returns-in-Err-parts_of : goal.returns-in-Err-parts_of
 returns-in-Err-parts_of g c =
-    dump-refused (g.F.Files.state c.args.files.now) (g.F.Files.state c.bytes_of.new.files) (g.O.Sink.state c.args.out.now) c.args.format.now c.args.name.now c.args.image.now c.in-Ok.file c.in-Err-parts_of.cause
+    dump-refused (g.F.Files.state c.args.files.now) (g.F.Files.state c.fetch.new.files) (g.O.Sink.state c.args.out.now) c.args.format.now c.args.name.now c.args.image.now c.in-Ok.file c.in-Err-parts_of.cause
     c.in-Ok.ensures (subst (λ b. MakesParts c.args.format.now b (Err c.in-Err-parts_of.cause)) c.deref.ensures.value c.in-Err-parts_of.ensures)
 
 pub returns-in-Ok-write_image : goal.returns-in-Ok-write_image
 returns-in-Ok-write_image g c =
     let old = g.F.Files.state c.args.files.now in
-    let mid = g.F.Files.state c.bytes_of.new.files in
+    let mid = g.F.Files.state c.fetch.new.files in
     let before = g.O.Sink.state c.args.out.now in
     let after = g.O.Sink.state c.print_text.new.out in
     let format = c.args.format.now in
@@ -28,7 +28,7 @@ returns-in-Ok-write_image g c =
 pub returns : goal.returns
 returns g c =
     let old = g.F.Files.state c.args.files.now in
-    let mid = g.F.Files.state c.bytes_of.new.files in
+    let mid = g.F.Files.state c.fetch.new.files in
     let format = c.args.format.now in
     let parts = c.in-Ok-parts_of.parts in
     dump-unwritten old mid (g.F.Files.state c.write_image.new.files) (g.O.Sink.state c.args.out.now) format c.args.name.now c.args.image.now (dumped_as parts)

@@ -1,5 +1,5 @@
-use Rattle.ap_run.proofs.Dumping.{unmeasured, fetched, not-fetched}
-use Rattle.ap_run.proofs.dump.bytes_of.Goals as goal
+use Rattle.ap_run.proofs.Fetching.{unmeasured, fetched, not-fetched}
+use Rattle.ap_run.proofs.fetch.fetch.Goals as goal
 
 pub returns-in-Err : goal.returns-in-Err
 returns-in-Err g c = unmeasured (g.F.Files.state c.args.files.now) (g.F.Files.state c.measure.new.files) c.args.name.now c.in-Err.cause c.in-Err.ensures
